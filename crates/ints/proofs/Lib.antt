@@ -1,0 +1,4 @@
+pub mod Laws
+pub mod Ring
+pub mod Floor
+pub mod Sizes

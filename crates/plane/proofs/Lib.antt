@@ -1,0 +1,4 @@
+pub mod Maps
+pub mod Algebra
+pub mod Order
+pub mod Folding
