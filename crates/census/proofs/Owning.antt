@@ -120,10 +120,11 @@ module _ (number p q : ℕ) where
     -- a cell of the repeat at its place
     placed : (c : Cell) (r : InRepeat p q c) → (r .row * p + r .column < p * q) × (cell-at p (r .row * p + r .column) ≡ c)
     placed c r =
-        let low = rules number p q a .p-low in
-        (within (r .row) (r .column) (r .low) (r .narrow),
-         same-cell (ap pos (digits-mod (r .row) (r .narrow)) ∙ sym (r .x))
-           (ap pos (mul-add-div-right low (r .row) (r .column) ∙ ap (λ (m : ℕ). r .row + m) (div-eq-of-lt (r .narrow)) ∙ add-zero (r .row)) ∙ sym (r .y)))
+        let low = rules number p q a .p-low in (
+          within (r .row) (r .column) (r .low) (r .narrow),
+          same-cell (ap pos (digits-mod (r .row) (r .narrow)) ∙ sym (r .x))
+              (ap pos (mul-add-div-right low (r .row) (r .column) ∙ ap (λ (m : ℕ). r .row + m) (div-eq-of-lt (r .narrow)) ∙ add-zero (r .row)) ∙ sym (r .y)),
+        )
       where
         within : (row column : ℕ) → row < q → column < p → row * p + column < p * q
         within row column l n = omega (arith, mul-le-mul-right p l, mul-comm p q, suc-mul row p)

@@ -36,13 +36,7 @@ fn own_kinds(group: &Tabled, at: Cell) -> Option<Kinds>
     ensures { λ r. ⌜ Cases r (home-in (now (group .entry) .number) (now (group .entry) .p) (now (group .entry) .q) at ≡ at → ⊥) (λ k. (home-in (now (group .entry) .number) (now (group .entry) .p) (now (group .entry) .q) at ≡ at) × (k ≡ kinds-in (now (group .entry) .number) (now (group .entry) .p) (now (group .entry) .q) at)) ⌝ }
 {
     match group.fold(at) {
-        Ok(f) => {
-            if f.home == at {
-                Some(f.kinds)
-            } else {
-                None
-            }
-        }
+        Ok(f) => { if f.home == at { Some(f.kinds) } else { None } }
         Err(_) => None,
     }
 }
