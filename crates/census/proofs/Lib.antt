@@ -1,1 +1,3 @@
 pub mod Owning
+pub mod Noting
+pub mod Meeting

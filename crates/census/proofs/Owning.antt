@@ -23,7 +23,8 @@ use Rattle.groups.specs.Rules.{known, allowed}
 use Rattle.groups.specs.Tabled.{Operates, InRepeat, home-in, kinds-in, tabled}
 use Rattle.groups.proofs.Homing.{tabled-laws, homes-least}
 use Rattle.groups.proofs.Grouping.{rules}
-use Rattle.census.specs.Census.{cell-at, Distinct, mirrored-in, Homes, Counted}
+use Rattle.census.specs.Homes.{Distinct, Homes}
+use Rattle.census.specs.Census.{cell-at, mirrored-in}
 
 -- the cells before the cell k that are their own homes
 abbrev pub own-homes : ℕ → ℕ → ℕ → ℕ → List Cell
@@ -142,7 +143,7 @@ module _ (number p q : ℕ) where
           low = div-lt-iff-lt-mul {k = p} {x = j} {y = q} low .1 (omega (arith, mul-comm p q));
         }
 
-    pub homes-are : Homes number p q (before (p * q))
+    pub homes-are : Homes (tabled number p q) (InRepeat p q) (before (p * q))
     homes-are = record {
       distinct = once (p * q);
       all = λ c r.

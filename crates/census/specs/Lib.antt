@@ -1,1 +1,3 @@
+pub mod Homes
 pub mod Census
+pub mod Windows

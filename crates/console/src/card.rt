@@ -2,7 +2,7 @@
 ghost use mathlib.Core.Path.{_≡_};
 ghost use Rattle.census.specs.Census.{Counted};
 ghost use Rattle.std.specs.Vec.{made};
-use census::Census;
+use census::repeats::Census;
 use groups::tabled::Tabled;
 use groups::tabled::folds::TabledSymmetry;
 use plane::cell::Cell;

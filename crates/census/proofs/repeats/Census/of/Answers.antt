@@ -8,9 +8,11 @@ use Rattle.plane.specs.declared.kinds.Kinds.{Kinds}
 use Rattle.plane.specs.Kinds.{on-mirror}
 use Rattle.groups.specs.Tabled.{home-in, kinds-in}
 use Rattle.census.proofs.Owning.{own-homes, homes-are, many-more, many-same, mirrored-more, mirrored-same}
-use Rattle.census.specs.Census.{Homes, cell-at}
-use Rattle.census.proofs.Census.of.Needs as need
-use Rattle.census.proofs.Census.of.Needs.{in-Some·then-on-mirror, in-Some·else-on-mirror, in-rest}
+use Rattle.groups.specs.Tabled.{InRepeat, tabled}
+use Rattle.census.specs.Homes.{Homes}
+use Rattle.census.specs.Census.{cell-at}
+use Rattle.census.proofs.repeats.Census.of.Needs as need
+use Rattle.census.proofs.repeats.Census.of.Needs.{in-Some·then-on-mirror, in-Some·else-on-mirror, in-rest}
 
 pub loop-k-again : need.loop-k-again
 loop-k-again c =
@@ -52,7 +54,7 @@ returns c =
     let end : c .loop-k .k ≡ g .p * g .q = omega (arith, ap₂ (λ (a b : ℕ). a * b) (c .p-p .ensures) (c .q .ensures)) in
     record {
       homes = own-homes (g .number) (g .p) (g .q) (c .loop-k .k);
-      are = subst (λ (k : ℕ). Homes (g .number) (g .p) (g .q) (own-homes (g .number) (g .p) (g .q) k)) (sym end) (homes-are (g .number) (g .p) (g .q) (g .listed) (g .suited));
+      are = subst (λ (k : ℕ). Homes (tabled (g .number) (g .p) (g .q)) (InRepeat (g .p) (g .q)) (own-homes (g .number) (g .p) (g .q) k)) (sym end) (homes-are (g .number) (g .p) (g .q) (g .listed) (g .suited));
       many = c .loop-k .inv .0;
       on-mirrors = c .loop-k .inv .1;
     }

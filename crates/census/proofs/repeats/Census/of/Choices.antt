@@ -3,7 +3,7 @@ use Prim.Native.Nat.{_≤_}
 use lib.ListN.{length}
 use Rattle.census.specs.Census.{mirrored-in}
 use Rattle.census.proofs.Owning.{own-homes}
-use Rattle.census.proofs.Census.of.Given as given
+use Rattle.census.proofs.repeats.Census.of.Given as given
 
 abbrev pub Inv-loop-k : given.InvT-loop-k
 Inv-loop-k l =
