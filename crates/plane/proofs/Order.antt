@@ -65,3 +65,10 @@ pub same-of : (p q : Cell) → p ≡ q → T (same p q)
 same-of p q e =
     T-and (eqZ (p .x) (q .x)) (eqZ (p .y) (q .y))
     (eqZ-of (p .x) (q .x) (ap (λ (c : Cell). c .x) e)) (eqZ-of (p .y) (q .y) (ap (λ (c : Cell). c .y) e))
+
+pub same-not : (p q : Cell) → (p ≡ q → ⊥) → same p q ≡ false
+same-not p q h = go (same p q) refl
+  where
+    go : (b : Bool) → same p q ≡ b → same p q ≡ false
+    go true e = absurd (h (same-is p q (subst T (sym e) tt)))
+    go false e = e
