@@ -10,7 +10,7 @@ use Rattle.plane.specs.declared.fold.Extent.{Extent}
 use Rattle.plane.specs.declared.fold.Fold.{Fold}
 use Rattle.plane.specs.declared.fold.FoldRefused.{FoldRefused}
 use Rattle.plane.specs.Cells.{Within, inside}
-use Rattle.plane.specs.Meaning.{Meaning, extent-of, answer, folded}
+use Rattle.plane.specs.Meaning.{Meaning, Alike, extent-of, answer, folded}
 use Rattle.plane.specs.Laws.{Lawful}
 use Rattle.plane.proofs.Folding.{inside-within, within-inside}
 use Rattle.layers.specs.declared.refused.LayerRefused.{LayerRefused}
@@ -22,8 +22,8 @@ use Rattle.layers.specs.Refusals.{verdict, judged, settled, roomy}
 use Rattle.layers.specs.Shift.{reach, short, moved-by, shift-extent}
 use Rattle.layers.specs.Recast.{fair, recast-by, recast-extent}
 use Rattle.layers.specs.Counterchange.{counterchanged}
-use Rattle.layers.specs.Layer.{layer-extent, layered, down, up, recounted, settled-extent, in-span, lower, lowered, raise, raised}
-use Rattle.layers.proofs.Judging.{granted, roomy-is}
+use Rattle.layers.specs.Layer.{layer-extent, laid, layered, down, up, recounted, settled-extent, in-span, lower, lowered, raise, raised}
+use Rattle.layers.proofs.Judging.{granted, roomy-is, accepted}
 use Rattle.layers.proofs.Shifting.{shift-laws, into as shift-into}
 use Rattle.layers.proofs.Recasting.{recast-laws, into as recast-into}
 use Rattle.layers.proofs.Exchanging.{counterchange-laws}
@@ -33,6 +33,12 @@ pub layer-laws : (l : Layer) (m : Meaning) → Lawful m → Lawful (layered l m)
 layer-laws (Shift w) m laws = shift-laws m laws w
 layer-laws (Recast w) m laws = recast-laws m laws w
 layer-laws Counterchange m laws = counterchange-laws m laws
+
+-- an accepted layer means what the rules give
+pub laid-alike : (l : Layer) (m : Meaning) (own : Extent) → Ok own ≡ layer-extent l (extent-of m) → Alike (layered l m) (laid l m)
+laid-alike (Shift w) m own e = accepted (shift-extent w (extent-of m)) own e (moved-by w m) m
+laid-alike (Recast w) m own e = accepted (recast-extent w (extent-of m)) own e (recast-by w m) m
+laid-alike Counterchange m own e = accepted (Ok (extent-of m)) own e (counterchanged m) m
 
 -- ---- extents
 extent-settled : (fair : Bool) (e : Extent) (over below : Meaning) → extent-of over ≡ e → extent-of (settled (judged fair e) over below) ≡ settled-extent (judged fair e) (extent-of below)

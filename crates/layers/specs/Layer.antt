@@ -15,8 +15,8 @@ use Rattle.plane.specs.Meaning.{Meaning}
 use Rattle.layers.specs.declared.refused.LayerRefused.{LayerRefused}
 use Rattle.layers.specs.declared.layer.Layer.{Layer}
 use Rattle.layers.specs.declared.layer.Layer.the-variants.{Shift, Recast, Counterchange}
-use Rattle.layers.specs.Shift.{short, reverse, moved, shift-extent, shifted}
-use Rattle.layers.specs.Recast.{fair, inverse, applied, recast-extent, recasted}
+use Rattle.layers.specs.Shift.{short, reverse, moved, moved-by, shift-extent, shifted}
+use Rattle.layers.specs.Recast.{fair, inverse, applied, recast-by, recast-extent, recasted}
 use Rattle.layers.specs.Counterchange.{exchanged, counterchanged}
 
 -- the shift or the matrix is one of those that the rules allow
@@ -31,6 +31,13 @@ layer-extent (Shift w) e = shift-extent w e
 layer-extent (Recast w) e = recast-extent w e
 layer-extent Counterchange e = Ok e
 
+-- the meaning of an accepted layer, by the rules
+abbrev pub laid : Layer → Meaning → Meaning
+laid (Shift w) m = moved-by w m
+laid (Recast w) m = recast-by w m
+laid Counterchange m = counterchanged m
+
+-- the meaning of a layer that is held over a symmetry
 abbrev pub layered : Layer → Meaning → Meaning
 layered (Shift w) m = shifted w m
 layered (Recast w) m = recasted w m
