@@ -1,0 +1,6 @@
+pub mod Refusals
+pub mod Lattice
+pub mod Reduction
+pub mod Bounds
+pub mod Oblique
+pub mod Theorems

@@ -1,0 +1,167 @@
+// Worked cases of the generic layers.
+use super::answers::Home;
+use super::answers::HomeDebug;
+use super::answers::HomePartialEq;
+use super::answers::home_of;
+use super::answers::reach_of;
+use groups::rules::GroupRefusedDebug;
+use groups::tabled::Tabled;
+use groups::tabled::folds::TabledSymmetry;
+use layers::counterchange::Counterchange;
+use layers::counterchange::CounterchangeSymmetry;
+use layers::recast::Recast;
+use layers::recast::RecastSymmetry;
+use layers::shift::Shift;
+use layers::shift::ShiftSymmetry;
+use plane::symmetry::Symmetry;
+use std::test::*;
+
+// The number of the refusal of a shift, or 0.
+fn shift_refusal<S: Symmetry + Drop>(below: S, u: i64, v: i64) -> u8 {
+    match Shift::over(below, u, v) {
+        Ok(_) => 0,
+        Err(refused) => refused.why.number(),
+    }
+}
+
+// The number of the refusal of a matrix, or 0.
+fn recast_refusal<S: Symmetry + Drop>(below: S, a: i64, b: i64, c: i64, d: i64) -> u8 {
+    match Recast::over(below, a, b, c, d) {
+        Ok(_) => 0,
+        Err(refused) => refused.why.number(),
+    }
+}
+
+#[test]
+fn bounds_of_a_shift() -> Result<(), Fail> {
+    let group = Tabled::numbered(1, 4, 4)?;
+    check_eq(shift_refusal(group, 1000, -1000), 0)?;
+    check_eq(shift_refusal(group, 1001, 0), 15)?;
+    check_eq(shift_refusal(group, 0, -1001), 15)?;
+    check_eq(shift_refusal(group, i64::MIN, 0), 15)?;
+    check_eq(shift_refusal(group, 0, i64::MAX), 15)
+}
+
+#[test]
+fn bounds_of_a_matrix() -> Result<(), Fail> {
+    let group = Tabled::numbered(1, 4, 4)?;
+    check_eq(recast_refusal(group, 8, 7, -7, -6), 0)?;
+    check_eq(recast_refusal(group, -8, -7, 7, 6), 0)?;
+    check_eq(recast_refusal(group, 9, 1, -1, 0), 15)?;
+    check_eq(recast_refusal(group, 1, 0, 9, 1), 15)?;
+    check_eq(recast_refusal(group, 1, 0, 0, 2), 15)?;
+    check_eq(recast_refusal(group, 0, 0, 0, 0), 15)?;
+    check_eq(
+        recast_refusal(group, i64::MIN, i64::MAX, i64::MAX, i64::MIN),
+        15,
+    )
+}
+
+// A refused layer gives the symmetry below back.
+#[test]
+fn below_comes_back() -> Result<(), Fail> {
+    let group = Tabled::numbered(10, 4, 4)?;
+    let before = home_of(&group, 5, 3);
+    match Recast::over(group, 1, 1, 1, 1) {
+        Ok(_) => Err(Fail::new("a matrix of determinant 0 was accepted")),
+        Err(refused) => check_eq(home_of(&refused.below, 5, 3), before),
+    }
+}
+
+#[test]
+fn recast_p4() -> Result<(), Fail> {
+    let Ok(symmetry) = Recast::over(Tabled::numbered(10, 4, 4)?, 1, 1, 0, 1) else {
+        return Err(Fail::new("refused"));
+    };
+    check_eq(reach_of(&symmetry), (62_500, 2048))?;
+    check_eq(
+        home_of(&symmetry, 5, 3),
+        Ok(Home {
+            x: 3,
+            y: 1,
+            kinds: 1,
+        }),
+    )?;
+    check_eq(
+        home_of(&symmetry, 46_845, 35_070),
+        Ok(Home {
+            x: 3,
+            y: 1,
+            kinds: 1,
+        }),
+    )?;
+    check_eq(home_of(&symmetry, -62_501, -62_500), Err(2))
+}
+
+// Over pm the mirrors turn odd: (1, 2) and (5, 2) have one home with opposite parities, and (3, 2) is neutral.
+#[test]
+fn counterchanged_pm() -> Result<(), Fail> {
+    let symmetry = Counterchange::over(Tabled::numbered(3, 6, 6)?);
+    check_eq(
+        home_of(&symmetry, 1, 2),
+        Ok(Home {
+            x: 1,
+            y: 2,
+            kinds: 1,
+        }),
+    )?;
+    check_eq(
+        home_of(&symmetry, 5, 2),
+        Ok(Home {
+            x: 1,
+            y: 2,
+            kinds: 8,
+        }),
+    )?;
+    check_eq(
+        home_of(&symmetry, 7, 2),
+        Ok(Home {
+            x: 1,
+            y: 2,
+            kinds: 1,
+        }),
+    )?;
+    check_eq(
+        home_of(&symmetry, 3, 2),
+        Ok(Home {
+            x: 3,
+            y: 2,
+            kinds: 9,
+        }),
+    )
+}
+
+// The order of layers matters.
+#[test]
+fn shift_over_recast_and_recast_over_shift() -> Result<(), Fail> {
+    let Ok(recast) = Recast::over(Tabled::numbered(10, 4, 4)?, 1, 1, 0, 1) else {
+        return Err(Fail::new("refused"));
+    };
+    let Ok(shifted) = Shift::over(recast, 1, 2) else {
+        return Err(Fail::new("refused"));
+    };
+    check_eq(reach_of(&shifted), (62_498, 2050))?;
+    check_eq(
+        home_of(&shifted, 6, 5),
+        Ok(Home {
+            x: 4,
+            y: 3,
+            kinds: 1,
+        }),
+    )?;
+    let Ok(shift) = Shift::over(Tabled::numbered(10, 4, 4)?, 1, 2) else {
+        return Err(Fail::new("refused"));
+    };
+    let Ok(recasted) = Recast::over(shift, 1, 1, 0, 1) else {
+        return Err(Fail::new("refused"));
+    };
+    check_eq(reach_of(&recasted), (62_499, 2080))?;
+    check_eq(
+        home_of(&recasted, 8, 5),
+        Ok(Home {
+            x: 6,
+            y: 3,
+            kinds: 1,
+        }),
+    )
+}

@@ -1,0 +1,4 @@
+pub mod Base
+pub mod Levels
+pub mod Pushes
+pub mod Piles
