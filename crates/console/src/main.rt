@@ -3,22 +3,30 @@ ghost use Prim.Native.Nat.{_≤_};
 ghost use lib.ListN.{length};
 use answer::Answer;
 use answer::AnswerDisplay;
-use card::Card;
+use cards::card::Card;
+use cards::picture::Picture;
+use census::windows::WindowFault;
 use command::Command;
-use command::CommandFromStr;
+use command::CommandReadLine;
+use command::ReadLine;
 use command::TroubleDisplay;
+use groups::rules::GroupRefused;
 use groups::tabled::Tabled;
-use groups::tabled::folds::TabledSymmetry;
+use lattice::reduced::reduce;
+use pile::pile::Pile;
+use pile::pile::folds::PileSymmetry;
 use plane::cell::Cell;
 use plane::symmetry::Symmetry;
-use std::alloc::AllocError;
 use std::alloc::Global;
 use std::io;
 use std::io::Read;
+use symmetry::DescriptionMake;
+use symmetry::Made;
+use symmetry::Make;
 
 mod answer;
-mod card;
 mod command;
+mod symmetry;
 
 // What a run did.
 #[derive(Clone, Copy)]
@@ -42,40 +50,82 @@ fn line_end(input: &[u8], start: usize) -> usize
     input.len()
 }
 
-fn fold(group: Tabled, at: Cell) -> Answer {
-    match group.fold(at) {
+fn fold_answer(symmetry: Pile, at: Cell) -> Answer {
+    match symmetry.fold(at) {
         Ok(fold) => Answer::Fold(fold),
         Err(why) => Answer::Refused(why.number()),
     }
 }
 
-// The answer to a command that is not empty.
-fn answer_to(heap: Global, command: Command) -> Result<Option<Answer>, AllocError> {
-    let answer = match command {
-        Command::Nothing => return Ok(None),
-        Command::Make(made) => match made {
-            Ok(group) => Answer::Extent(group.extent()),
-            Err(why) => Answer::Refused(why.number()),
+fn reduce_answer(ax: i64, ay: i64, bx: i64, by: i64) -> Answer {
+    match reduce(ax, ay, bx, by) {
+        Ok(reduced) => Answer::Reduced(reduced),
+        Err(why) => Answer::Refused(why.number()),
+    }
+}
+
+// The answer where a window is not drawn.
+fn fault(why: WindowFault) -> Answer {
+    match why {
+        WindowFault::Memory => Answer::NoMemory,
+        _ => Answer::Refused(why.number()),
+    }
+}
+
+fn window_answer(heap: Global, symmetry: Pile, corner: Cell, width: i64, height: i64) -> Answer {
+    match Picture::of(heap, &symmetry, corner, width, height) {
+        Ok(picture) => Answer::Classes(picture),
+        Err(why) => fault(why),
+    }
+}
+
+fn card_answer(heap: Global, made: Result<Tabled, GroupRefused>) -> Answer {
+    match made {
+        Ok(group) => match Card::of(heap, group) {
+            Ok(card) => Answer::Card(card),
+            Err(why) => fault(why),
         },
-        Command::Fold(made, at) => match made {
-            Ok(group) => fold(group, at),
-            Err(why) => Answer::Refused(why.number()),
-        },
-        Command::Card(made) => match made {
-            Ok(group) => Answer::Card(Card::of(heap, group)?),
-            Err(why) => Answer::CardRefused(why),
-        },
-        Command::Help => Answer::Help,
-    };
-    Ok(Some(answer))
+        Err(why) => Answer::CardRefused(why),
+    }
+}
+
+// The answer to a command that asks for one.
+fn answer_to(heap: Global, command: Command) -> Option<Answer> {
+    match command {
+        Command::Nothing => None,
+        Command::Make(symmetry) => Some(
+            match symmetry.make(heap) {
+                Made::Pile(pile) => Answer::Extent(pile.extent()),
+                Made::Refused(number) => Answer::Refused(number),
+                Made::NoMemory => Answer::NoMemory,
+            },
+        ),
+        Command::Fold(symmetry, at) => Some(
+            match symmetry.make(heap) {
+                Made::Pile(pile) => fold_answer(pile, at),
+                Made::Refused(number) => Answer::Refused(number),
+                Made::NoMemory => Answer::NoMemory,
+            },
+        ),
+        Command::Reduce { ax, ay, bx, by } => Some(reduce_answer(ax, ay, bx, by)),
+        Command::Classes(symmetry, corner, width, height) => Some(
+            match symmetry.make(heap) {
+                Made::Pile(pile) => window_answer(heap, pile, corner, width, height),
+                Made::Refused(number) => Answer::Refused(number),
+                Made::NoMemory => Answer::NoMemory,
+            },
+        ),
+        Command::Card(made) => Some(card_answer(heap, made)),
+        Command::Help => Some(Answer::Help),
+    }
 }
 
 impl Tally {
     fn note(&mut self, answer: &Answer) {
         self.commands = self.commands.saturating_add(1);
         match answer {
-            Answer::Refused(_) | Answer::CardRefused(_) => self.refusals = self.refusals
-                .saturating_add(1),
+            Answer::Refused(_) | Answer::CardRefused(_) | Answer::NoMemory => self.refusals =
+                self.refusals.saturating_add(1),
             _ => self.answers = self.answers.saturating_add(1),
         }
     }
@@ -86,9 +136,9 @@ impl Tally {
             self.puzzles = self.puzzles.saturating_add(1);
             return println!(rt, "line {number}: not text in UTF-8");
         };
-        match text.parse::<Command>() {
+        match Command::read_line(rt.alloc(), text) {
             Ok(command) => {
-                if let Some(answer) = answer_to(rt.alloc(), command)? {
+                if let Some(answer) = answer_to(rt.alloc(), command) {
                     self.note(&answer);
                     println!(rt, "{text} {answer}")?;
                 }
