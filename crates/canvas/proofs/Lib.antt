@@ -1,0 +1,6 @@
+pub mod Sameness
+pub mod Answering
+pub mod Listing
+pub mod Boards
+pub mod Tallies
+pub mod Tables

@@ -1,0 +1,5 @@
+pub mod Inks
+pub mod Refusals
+pub mod Distinct
+pub mod Board
+pub mod Tally

@@ -1,0 +1,26 @@
+// Why a canvas refuses a put.
+ghost use mathlib.Core.Path.{_≡_};
+ghost use Rattle.canvas.specs.Refusals.{put-number};
+
+#[derive(Clone, Copy, PartialEq, Eq, Debug)]
+pub enum PutRefused {
+    // The ink is above 15.
+    Ink,
+    // The cell is outside the frame.
+    Frame,
+    // The cell is not held, and every seat is taken.
+    Seats,
+}
+
+impl PutRefused {
+    // The refusal's number.
+    pub fn number(self) -> u8
+        ensures { λ r. ⌜ r ≡ put-number self ⌝ }
+    {
+        match self {
+            PutRefused::Ink => 1,
+            PutRefused::Frame => 4,
+            PutRefused::Seats => 5,
+        }
+    }
+}
