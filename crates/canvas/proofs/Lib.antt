@@ -4,3 +4,5 @@ pub mod Listing
 pub mod Boards
 pub mod Tallies
 pub mod Tables
+pub mod Recorded
+pub mod Recording

@@ -3,3 +3,4 @@ pub mod Refusals
 pub mod Distinct
 pub mod Board
 pub mod Tally
+pub mod Records

@@ -1,6 +1,7 @@
 // Why a canvas refuses a put.
 ghost use mathlib.Core.Path.{_≡_};
-ghost use Rattle.canvas.specs.Refusals.{put-number};
+ghost use Rattle.canvas.specs.Refusals.{from-shelf, put-number};
+use shelf::refusal::ShelfRefused;
 
 #[derive(Clone, Copy, PartialEq, Eq, Debug)]
 pub enum PutRefused {
@@ -21,6 +22,17 @@ impl PutRefused {
             PutRefused::Ink => 1,
             PutRefused::Frame => 4,
             PutRefused::Seats => 5,
+        }
+    }
+}
+
+// A full shelf is a canvas with no seat left.
+pub impl From<ShelfRefused> for PutRefused as PutRefusedFromShelf {
+    ghost converts = { λ why r. r ≡ from-shelf why };
+
+    fn from(why: ShelfRefused) -> PutRefused {
+        match why {
+            ShelfRefused::Full => PutRefused::Seats,
         }
     }
 }

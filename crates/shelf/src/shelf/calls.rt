@@ -2,15 +2,13 @@
 ghost use mathlib.Core.List.{[]};
 ghost use mathlib.Core.Path.{_≡_};
 ghost use Prim.Native.Nat.{_≤_};
-ghost use lib.ListN.{drop, length};
-ghost use Rattle.shelf.specs.Held.{free, held, insert-answer, insert-held, size, table};
-ghost use Rattle.shelf.specs.Keys.{Sorted, found, taken};
+ghost use lib.ListN.{length};
+ghost use Rattle.shelf.specs.Held.{Inserts, Removes, held, size, table};
+ghost use Rattle.shelf.specs.Keys.{Sorted, found};
 use super::super::record::Record;
 use super::super::refusal::ShelfRefused;
 use super::super::slices;
 use super::Shelf;
-use super::Slots;
-use super::moves;
 
 impl<'a, R: Record> Shelf<'a, R> {
     // An empty shelf over the caller's records.
@@ -18,51 +16,53 @@ impl<'a, R: Record> Shelf<'a, R> {
         ensures held { λ r. ⌜ held r ≡ [] ⌝ }
         ensures table { λ r. ⌜ table r ≡ now (records .entry) ⌝ }
     {
-        let slots = Slots { records, count: 0 };
-        Shelf { slots }
+        Shelf { records, count: 0 }
     }
 
     // How many records are held.
     pub fn len(&self) -> usize
-        ensures { λ r. ⌜ r ≡ length (held (now (self .entry))) ⌝ }
+        ensures is { λ r. ⌜ r ≡ length (held (now (self .entry))) ⌝ }
+        ensures within { λ r. ⌜ r ≤ size (now (self .entry)) ⌝ }
     {
-        self.slots.count
+        self.count.min(self.size())
     }
 
     // How many records the table has.
     pub fn size(&self) -> usize
         ensures { λ r. ⌜ r ≡ size (now (self .entry)) ⌝ }
     {
-        self.slots.records.len()
+        self.records.len()
     }
 
     // The record of a key, if there is one.
     pub fn find(&self, key: R::Key) -> Option<R>
         ensures { λ r. ⌜ (Sorted (R·Record .keys) (held (now (self .entry))) → r ≡ found (R·Record .keys) key (held (now (self .entry)))) ⌝ }
     {
-        slices::find(&self.slots.records[0..self.len()], key)
+        let count = self.len();
+        slices::find(&self.records[0..count], key)
     }
 
     // Gives a record the place of its key, over that of the same key if there is one.
     pub fn insert(&mut self, item: R) -> Result<(), ShelfRefused>
-        ensures answer { λ r. ⌜ (Sorted (R·Record .keys) (held (now (self .entry))) → r ≡ insert-answer (R·Record .keys) (size (now (self .entry))) item (held (now (self .entry)))) ⌝ }
-        ensures held { λ _. ⌜ (Sorted (R·Record .keys) (held (now (self .entry))) → held (now (self .exit)) ≡ insert-held (R·Record .keys) (size (now (self .entry))) item (held (now (self .entry)))) ⌝ }
-        ensures sorted { λ _. ⌜ (Sorted (R·Record .keys) (held (now (self .entry))) → Sorted (R·Record .keys) (held (now (self .exit)))) ⌝ }
-        ensures free { λ _. ⌜ free (now (self .exit)) ≡ drop (length (held (now (self .exit)))) (table (now (self .entry))) ⌝ }
-        ensures size { λ _. ⌜ size (now (self .exit)) ≡ size (now (self .entry)) ⌝ }
+        ensures { λ r. ⌜ Inserts (R·Record .keys) item (now (self .entry)) (now (self .exit)) r ⌝ }
     {
-        moves::insert(&mut self.slots, item)
+        let count = self.len();
+        self.count = slices::insert(self.records, count, item)?;
+        Ok(())
     }
 
     // Takes out the record of a key, if there is one, and answers it.
     pub fn remove(&mut self, key: R::Key) -> Option<R>
-        ensures answer { λ r. ⌜ (Sorted (R·Record .keys) (held (now (self .entry))) → r ≡ found (R·Record .keys) key (held (now (self .entry)))) ⌝ }
-        ensures held { λ _. ⌜ (Sorted (R·Record .keys) (held (now (self .entry))) → held (now (self .exit)) ≡ taken (R·Record .keys) key (held (now (self .entry)))) ⌝ }
-        ensures sorted { λ _. ⌜ (Sorted (R·Record .keys) (held (now (self .entry))) → Sorted (R·Record .keys) (held (now (self .exit)))) ⌝ }
-        ensures free { λ _. ⌜ free (now (self .exit)) ≡ drop (length (held (now (self .exit)))) (table (now (self .entry))) ⌝ }
-        ensures size { λ _. ⌜ size (now (self .exit)) ≡ size (now (self .entry)) ⌝ }
+        ensures { λ r. ⌜ Removes (R·Record .keys) key (now (self .entry)) (now (self .exit)) r ⌝ }
     {
-        moves::remove(&mut self.slots, key)
+        let count = self.len();
+        match slices::remove(self.records, count, key) {
+            Some(item) => {
+                self.count = count - 1;
+                Some(item)
+            }
+            None => None,
+        }
     }
 
     // Holds none: every record is free, and as it was.
@@ -70,7 +70,6 @@ impl<'a, R: Record> Shelf<'a, R> {
         ensures held { λ _. ⌜ held (now (self .exit)) ≡ [] ⌝ }
         ensures table { λ _. ⌜ table (now (self .exit)) ≡ table (now (self .entry)) ⌝ }
     {
-        let slots = &mut self.slots;
-        slots.count = 0;
+        self.count = 0;
     }
 }
