@@ -120,3 +120,21 @@ module _ {R K : Type 0} (keys : Keys R K) (o : TotalOrder keys) where
       go false false et eb more h =
           let e : y ≡ x = same h in
           (ap (λ (r : R). keys .key r) (sym e) ∙ o .total _ _ et eb, subst P e (a .0))
+
+  -- a key that leads the list is before each of its keys
+  leads-all : (k : K) (xs : List R) → leads keys k xs ≡ true → All (λ y. keys .before k (keys .key y) ≡ true) xs
+  leads-all k [] h = tt
+  leads-all k (x ∷ xs) h =
+      let p = and-parts (keys .before k (keys .key x)) (leads keys k xs) h in
+      (p .0, leads-all k xs (p .1))
+
+  -- each record is found by its key
+  pub all-found : (xs : List R) → Sorted keys xs → All (λ y. found keys (keys .key y) xs ≡ Some y) xs
+  all-found [] s = tt
+  all-found (x ∷ xs) s =
+      let p = and-parts (leads keys (keys .key x) xs) (sorted keys xs) s in
+      (found-head x xs, past xs (leads-all (keys .key x) xs (p .0)) (all-found xs (p .1)))
+    where
+      past : (ys : List R) → All (λ y. keys .before (keys .key x) (keys .key y) ≡ true) ys → All (λ y. found keys (keys .key y) xs ≡ Some y) ys → All (λ y. found keys (keys .key y) (x ∷ xs) ≡ Some y) ys
+      past [] a b = tt
+      past (y ∷ ys) a b = (found-past (keys .key y) x xs (a .0) ∙ b .0, past ys (a .1) (b .1))
