@@ -3,6 +3,7 @@
 --     well-formed  a text of one to eight letters
 --     filled       the text, filled up with 0 to eight bytes
 --     lexical      the order of byte strings by their first different byte, where an end is before every byte
+use mathlib.Core.Path.{_≡_}
 use mathlib.Core.Bool.{Bool, true, false, cond, _&&_}
 use mathlib.Core.List.{List, [], _∷_, _++_}
 use Prim.Native.Nat.{ℕ, _-_}
@@ -36,3 +37,7 @@ lexical [] [] = false
 lexical [] (y ∷ ys) = true
 lexical (x ∷ xs) [] = false
 lexical (x ∷ xs) (y ∷ ys) = cond (ltb x y) true (cond (ltb y x) false (lexical xs ys))
+
+-- names are in the order of the texts that spell them, so that a name is before its longer continuations
+abbrev pub TextsOrdered : Type 0
+TextsOrdered = (t u : List ℕ) → well-formed t ≡ true → well-formed u ≡ true → lexical (filled t) (filled u) ≡ lexical t u

@@ -1,6 +1,6 @@
 // How names are spelled, and their order.
 ghost use mathlib.Core.Path.{_≡_};
-ghost use Rattle.dyes.specs.Names.{blank-name, lexical, spelled};
+ghost use Rattle.dyes.specs.Names.{TextsOrdered, blank-name, lexical, spelled};
 use super::super::refusal::DyeRefused;
 use super::DyeName;
 
@@ -14,7 +14,8 @@ impl DyeName {
 
     // Whether the name is before the other by its bytes. As 0 is below every letter, a name is before its longer continuations.
     pub fn precedes(self, other: DyeName) -> bool
-        ensures { λ r. ⌜ r ≡ lexical (self .letters) (other .letters) ⌝ }
+        ensures is { λ r. ⌜ r ≡ lexical (self .letters) (other .letters) ⌝ }
+        ensures texts { λ _. ⌜ TextsOrdered ⌝ }
     {
         for i in 0..8 {
             if self.letters[i] < other.letters[i] {

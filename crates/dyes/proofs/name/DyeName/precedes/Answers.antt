@@ -4,19 +4,20 @@ use native.Mathlib.Omega.{arith}
 use borrow.Author.Needs.{needs}
 use lib.ListN.{length, getD}
 use Rattle.dyes.proofs.Lexical.{less-at, more-at, level-at, both-end}
+use Rattle.dyes.proofs.Spelling.{texts-ordered}
 use Rattle.dyes.proofs.name.DyeName.precedes.Needs as need
 
 pub returns-then-self-i : need.returns-then-self-i
 returns-then-self-i c =
     let a : c .loop-i .i < length (c .args .self .letters) = search needs in
     let b : c .loop-i .i < length (c .args .other .letters) = search needs in
-    sym (less-at (c .args .self .letters) (c .args .other .letters) (c .loop-i .i) a b (c .if-self-i .taken)) ∙ c .loop-i .inv
+    record { texts = texts-ordered; is = sym (less-at (c .args .self .letters) (c .args .other .letters) (c .loop-i .i) a b (c .if-self-i .taken)) ∙ c .loop-i .inv }
 
 pub returns-then-other-i : need.returns-then-other-i
 returns-then-other-i c =
     let a : c .loop-i .i < length (c .args .self .letters) = search needs in
     let b : c .loop-i .i < length (c .args .other .letters) = search needs in
-    sym (more-at (c .args .self .letters) (c .args .other .letters) (c .loop-i .i) a b (c .if-other-i .taken)) ∙ c .loop-i .inv
+    record { texts = texts-ordered; is = sym (more-at (c .args .self .letters) (c .args .other .letters) (c .loop-i .i) a b (c .if-other-i .taken)) ∙ c .loop-i .inv }
 
 pub loop-i-again : need.loop-i-again
 loop-i-again c =
@@ -29,4 +30,4 @@ pub returns : need.returns
 returns c =
     let a : length (c .args .self .letters) ≤ c .loop-i .i = search needs in
     let b : length (c .args .other .letters) ≤ c .loop-i .i = search needs in
-    sym (both-end (c .args .self .letters) (c .args .other .letters) (c .loop-i .i) a b) ∙ c .loop-i .inv
+    record { texts = texts-ordered; is = sym (both-end (c .args .self .letters) (c .args .other .letters) (c .loop-i .i) a b) ∙ c .loop-i .inv }
