@@ -1,0 +1,4 @@
+pub mod Places
+pub mod Puts
+pub mod Wipes
+pub mod Making

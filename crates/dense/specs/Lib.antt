@@ -1,0 +1,5 @@
+pub mod Area
+pub mod AreaLaws
+pub mod Grids
+pub mod Dense
+pub mod Making
