@@ -1,7 +1,7 @@
 -- The home is the one cell of its class in the box.
 use mathlib.Core.Path.{_≡_, refl, sym, ap, _∙_}
-use mathlib.Core.List.{List, [], _∷_}
-use Prim.Native.Nat.{ℕ, _≤_, _<_}
+use mathlib.Core.List.{[], _∷_}
+use Prim.Native.Nat.{_≤_}
 use native.Mathlib.Omega.{arith}
 use lib.IntN.{ℤ, pos, negsuc, negℤ, _+ℤ_, _-ℤ_, _*ℤ_}
 use Rattle.ints.specs.Floor.{floorMod, floorDiv}
@@ -14,7 +14,7 @@ use Rattle.plane.proofs.Algebra.{same-cell}
 use Rattle.lattice.specs.declared.vectors.Vectors.{Vectors}
 use Rattle.lattice.specs.declared.reduced.Reduced.{Reduced}
 use Rattle.lattice.specs.Lattice.{Combination, lattice}
-use Rattle.lattice.specs.Reduction.{Reduces, basis}
+use Rattle.lattice.specs.Reduction.{Reduces}
 use Rattle.lattice.specs.Oblique.{InBox, boxed}
 use Rattle.lattice.specs.Theorems.{OneInBox, HomesInBox}
 use Rattle.lattice.proofs.Reducing.{into-basis, from-basis}

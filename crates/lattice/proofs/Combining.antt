@@ -1,7 +1,7 @@
 -- Whole combinations of two vectors: sums, multiples, and the rows that they reach.
 use mathlib.Core.Path.{_≡_}
-use mathlib.Core.List.{List, [], _∷_}
-use lib.IntN.{ℤ, pos, negsuc, negℤ, _+ℤ_, _-ℤ_, _*ℤ_}
+use mathlib.Core.List.{[], _∷_}
+use lib.IntN.{ℤ, pos, _+ℤ_, _-ℤ_, _*ℤ_}
 use Rattle.ints.proofs.Ring.{var, lit, neg, _⊕_, _⊖_, _⊗_, ring, ring-by, hyp}
 use Rattle.lattice.specs.declared.vectors.Vectors.{Vectors}
 use Rattle.lattice.specs.Lattice.{Combination}

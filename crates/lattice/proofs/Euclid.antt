@@ -1,6 +1,6 @@
 -- Euclid's steps lead to the reduction.
 use mathlib.Core.Path.{_≡_, refl, sym, ap, _∙_, subst}
-use mathlib.Core.List.{List, [], _∷_}
+use mathlib.Core.List.{[], _∷_}
 use Prim.Native.Nat.{ℕ, zero, suc, _+_, _*_, _/_, _%_, _≤_, _<_}
 use native.Mathlib.Omega.{arith}
 use native.Mathlib.Nat.{mod-add-div'}
@@ -11,9 +11,8 @@ use Rattle.ints.proofs.Laws.{abs-mul}
 use Rattle.ints.proofs.Ring.{var, lit, neg, _⊕_, _⊖_, _⊗_, ring, ring-by, hyp}
 use Rattle.ints.proofs.Floor.{floor-lt, floor-eq}
 use Rattle.lattice.specs.declared.vectors.Vectors.{Vectors}
-use Rattle.lattice.specs.declared.reduced.Reduced.{Reduced}
 use Rattle.lattice.specs.Lattice.{Combination, area}
-use Rattle.lattice.specs.Reduction.{Divides, Reduces, upright, finished, euclid, reduction}
+use Rattle.lattice.specs.Reduction.{Reduces, upright, finished, euclid, reduction}
 use Rattle.lattice.specs.Bounds.{Bounded}
 use Rattle.lattice.proofs.Combining.{less, mixed}
 use Rattle.lattice.proofs.Sizes.{area-kept, under, bounded-step, turned, upright-area}

@@ -1,8 +1,8 @@
 -- The laws of an oblique symmetry.
-use mathlib.Core.Path.{_≡_, refl, sym, ap, ap₂, _∙_, subst}
+use mathlib.Core.Path.{_≡_, refl, sym, ap, ap₂, _∙_}
 use mathlib.Core.Bool.{Bool, true, false, not}
 use mathlib.Core.Logic.{inl}
-use mathlib.Core.List.{List, [], _∷_}
+use mathlib.Core.List.{[], _∷_}
 use Prim.Native.Nat.{ℕ, _*_, _≤_, _<_}
 use native.Mathlib.Omega.{arith}
 use native.Mathlib.Nat.{mul-comm}
@@ -10,16 +10,15 @@ use lib.Dec.{lit≤}
 use lib.IntN.{ℤ, pos, negsuc, natAbs, _+ℤ_, _-ℤ_, _*ℤ_, pos-ne-negsuc}
 use Rattle.ints.proofs.Ring.{var, lit, _⊕_, _⊖_, _⊗_, ring, ring-by, hyp}
 use Rattle.plane.specs.declared.cell.Cell.{Cell}
-use Rattle.plane.specs.Cells.{Within}
-use Rattle.plane.specs.Operation.{Operation, carry, compose, identity, determinant, sign, translation, turned}
+use Rattle.plane.specs.Operation.{Operation, carry, compose, determinant, translation}
 use Rattle.plane.specs.Kinds.{has}
 use Rattle.plane.specs.Laws.{Group, Lawful, Carried, CarriedAs}
 use Rattle.plane.proofs.Algebra.{same-operation}
 use Rattle.lattice.specs.declared.vectors.Vectors.{Vectors}
 use Rattle.lattice.specs.declared.reduced.Reduced.{Reduced}
-use Rattle.lattice.specs.Lattice.{Combination, lattice, area, small, parallel}
+use Rattle.lattice.specs.Lattice.{lattice, area, small, parallel}
 use Rattle.lattice.specs.Reduction.{Reduces, reduction}
-use Rattle.lattice.specs.Oblique.{InBox, boxed, even-proper, oblique}
+use Rattle.lattice.specs.Oblique.{boxed, even-proper, oblique}
 use Rattle.lattice.proofs.Combining.{less, mixed, none}
 use Rattle.lattice.proofs.Boxing.{carried-by, home-distance, in-box, only}
 use Rattle.lattice.proofs.Sizes.{small-is, area-some, area-bound, factor-at-most}

@@ -1,17 +1,16 @@
 -- Two vectors have one reduction.
-use mathlib.Core.Path.{_≡_, refl, sym, ap, ap₂, _∙_, subst}
-use mathlib.Core.List.{List, [], _∷_}
-use Prim.Native.Nat.{ℕ, zero, suc, _*_, _≤_, _<_}
+use mathlib.Core.Path.{_≡_, sym, ap, _∙_, subst}
+use mathlib.Core.List.{[], _∷_}
+use Prim.Native.Nat.{ℕ, zero, suc, _*_, _≤_}
 use native.Mathlib.Omega.{arith}
-use lib.IntN.{ℤ, pos, negsuc, natAbs, _+ℤ_, _-ℤ_, _*ℤ_}
+use lib.IntN.{ℤ, pos, natAbs, _+ℤ_, _-ℤ_, _*ℤ_}
 use borrow.Author.Differences.{ints}
 use Rattle.ints.proofs.Laws.{abs-mul, *ℤ-cancel}
 use Rattle.ints.proofs.Ring.{var, lit, _⊕_, _⊖_, _⊗_, ring, ring-by, hyp}
 use Rattle.ints.proofs.Floor.{floor-unique}
-use Rattle.lattice.specs.declared.vectors.Vectors.{Vectors}
 use Rattle.lattice.specs.declared.reduced.Reduced.{Reduced}
 use Rattle.lattice.specs.Lattice.{Combination}
-use Rattle.lattice.specs.Reduction.{Divides, Reduces}
+use Rattle.lattice.specs.Reduction.{Divides}
 use Rattle.lattice.specs.Theorems.{OneReduction}
 use Rattle.lattice.proofs.Combining.{less}
 use Rattle.lattice.proofs.Reducing.{column-divides}

@@ -1,9 +1,9 @@
 -- What follows from a reduction: the reduced vectors give the same lattice.
-use mathlib.Core.Path.{_≡_, refl, sym, ap, ap₂, _∙_, subst}
-use mathlib.Core.List.{List, [], _∷_}
-use Prim.Native.Nat.{ℕ, suc, _*_, _≤_, _<_}
+use mathlib.Core.Path.{_≡_, ap, _∙_, subst}
+use mathlib.Core.List.{[], _∷_}
+use Prim.Native.Nat.{ℕ, _*_}
 use native.Mathlib.Omega.{arith}
-use lib.IntN.{ℤ, pos, negsuc, natAbs, negℤ, _+ℤ_, _-ℤ_, _*ℤ_}
+use lib.IntN.{ℤ, pos, negsuc, natAbs, _+ℤ_, _-ℤ_, _*ℤ_}
 use borrow.Author.Differences.{ints}
 use Rattle.ints.proofs.Laws.{*ℤ-cancel}
 use Rattle.ints.proofs.Ring.{var, lit, neg, _⊕_, _⊖_, _⊗_, ring, ring-by, hyp}

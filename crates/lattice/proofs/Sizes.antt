@@ -1,16 +1,16 @@
 -- Sizes: what the tests of two vectors say, and what a step of Euclid's algorithm keeps.
 use mathlib.Core.Path.{_≡_, refl, sym, ap, ap₂, _∙_, subst}
 use mathlib.Core.Bool.{Bool, true, false, _&&_}
-use mathlib.Core.List.{List, [], _∷_}
+use mathlib.Core.List.{[], _∷_}
 use Prim.Native.Nat.{ℕ, zero, suc, _+_, _*_, _/_, _%_, _≤_, _<_}
 use native.Mathlib.Omega.{arith}
-use native.Mathlib.Nat.{mul-le-mul, mul-le-mul-right, mod-lt, mod-add-div', div-le-self}
-use lib.Dec.{leb, eqb}
+use native.Mathlib.Nat.{mul-le-mul, mul-le-mul-right, mod-lt, mod-add-div'}
+use lib.Dec.{leb}
 use lib.IntN.{ℤ, pos, negsuc, natAbs, negℤ, _+ℤ_, _-ℤ_, _*ℤ_}
 use borrow.Author.Differences.{ints}
 use borrow.Author.Tests.{leb-true, eqb-false, both-ways}
 use Rattle.ints.proofs.Laws.{abs-mul}
-use Rattle.ints.proofs.Ring.{var, lit, neg, _⊕_, _⊖_, _⊗_, ring, ring-by, hyp}
+use Rattle.ints.proofs.Ring.{var, neg, _⊕_, _⊖_, _⊗_, ring, ring-by, hyp}
 use Rattle.lattice.specs.declared.vectors.Vectors.{Vectors}
 use Rattle.lattice.specs.Lattice.{area, small, parallel}
 use Rattle.lattice.specs.Reduction.{upright}

@@ -3,7 +3,7 @@
 --     reduction   how they are found: Euclid's algorithm on the rows of the two vectors, the columns carried along
 use mathlib.Core.Path.{_≡_}
 use Prim.Native.Nat.{ℕ, zero, suc, _*_, _/_, _%_, _≤_, _<_}
-use lib.IntN.{ℤ, pos, negsuc, negℤ, natAbs, _+ℤ_, _-ℤ_, _*ℤ_}
+use lib.IntN.{ℤ, pos, negsuc, negℤ, natAbs, _-ℤ_, _*ℤ_}
 use Rattle.ints.specs.Floor.{floorMod}
 use Rattle.lattice.specs.declared.vectors.Vectors.{Vectors}
 use Rattle.lattice.specs.declared.reduced.Reduced.{Reduced}

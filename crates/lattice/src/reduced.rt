@@ -1,11 +1,10 @@
 // The reduction of a lattice.
 ghost use mathlib.Core.Path.{_≡_};
-ghost use mathlib.Core.Bool.{true, false};
 ghost use Prim.Native.Nat.{_≤_, _/_, _%_};
 ghost use lib.IntN.{pos, natAbs, _-ℤ_, _*ℤ_};
 ghost use Rattle.std.specs.Results.{Cases};
 ghost use Rattle.lattice.specs.Refusals.{unless};
-ghost use Rattle.lattice.specs.Lattice.{small, parallel, refusal};
+ghost use Rattle.lattice.specs.Lattice.{refusal};
 ghost use Rattle.lattice.specs.Bounds.{Bounded};
 ghost use Rattle.lattice.specs.Reduction.{Reduces, upright, finished, euclid, reduction};
 use super::refused::LatticeRefused;

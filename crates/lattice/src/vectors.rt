@@ -3,7 +3,7 @@ ghost use mathlib.Core.Path.{_≡_};
 ghost use mathlib.Core.Bool.{true};
 ghost use lib.Dec.{leb};
 ghost use lib.IntN.{natAbs};
-ghost use Rattle.lattice.specs.Lattice.{area, small, parallel, refusal};
+ghost use Rattle.lattice.specs.Lattice.{area, small, refusal};
 use super::refused::LatticeRefused;
 use ints::products::cross;
 

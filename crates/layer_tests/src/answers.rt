@@ -16,6 +16,10 @@ pub struct Home {
     pub kinds: u8,
 }
 
+pub fn at_home(x: i64, y: i64, kinds: u8) -> Result<Home, u8> {
+    Ok(Home { x, y, kinds })
+}
+
 pub fn shift(u: i64, v: i64) -> Layer {
     Layer::Shift(Vector { u, v })
 }

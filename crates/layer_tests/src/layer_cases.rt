@@ -1,7 +1,7 @@
 // Worked cases of the generic layers.
-use super::answers::Home;
 use super::answers::HomeDebug;
 use super::answers::HomePartialEq;
+use super::answers::at_home;
 use super::answers::home_of;
 use super::answers::reach_of;
 use groups::rules::GroupRefusedDebug;
@@ -35,26 +35,33 @@ fn recast_refusal<S: Symmetry + Drop>(below: S, a: i64, b: i64, c: i64, d: i64) 
 #[test]
 fn bounds_of_a_shift() -> Result<(), Fail> {
     let group = Tabled::numbered(1, 4, 4)?;
-    check_eq(shift_refusal(group, 1000, -1000), 0)?;
-    check_eq(shift_refusal(group, 1001, 0), 15)?;
-    check_eq(shift_refusal(group, 0, -1001), 15)?;
-    check_eq(shift_refusal(group, i64::MIN, 0), 15)?;
-    check_eq(shift_refusal(group, 0, i64::MAX), 15)
+    for (u, v, number) in [
+        (1000, -1000, 0),
+        (1001, 0, 15),
+        (0, -1001, 15),
+        (i64::MIN, 0, 15),
+        (0, i64::MAX, 15),
+    ] {
+        check_eq(shift_refusal(group, u, v), number)?;
+    }
+    Ok(())
 }
 
 #[test]
 fn bounds_of_a_matrix() -> Result<(), Fail> {
     let group = Tabled::numbered(1, 4, 4)?;
-    check_eq(recast_refusal(group, 8, 7, -7, -6), 0)?;
-    check_eq(recast_refusal(group, -8, -7, 7, 6), 0)?;
-    check_eq(recast_refusal(group, 9, 1, -1, 0), 15)?;
-    check_eq(recast_refusal(group, 1, 0, 9, 1), 15)?;
-    check_eq(recast_refusal(group, 1, 0, 0, 2), 15)?;
-    check_eq(recast_refusal(group, 0, 0, 0, 0), 15)?;
-    check_eq(
-        recast_refusal(group, i64::MIN, i64::MAX, i64::MAX, i64::MIN),
-        15,
-    )
+    for (a, b, c, d, number) in [
+        (8, 7, -7, -6, 0),
+        (-8, -7, 7, 6, 0),
+        (9, 1, -1, 0, 15),
+        (1, 0, 9, 1, 15),
+        (1, 0, 0, 2, 15),
+        (0, 0, 0, 0, 15),
+        (i64::MIN, i64::MAX, i64::MAX, i64::MIN, 15),
+    ] {
+        check_eq(recast_refusal(group, a, b, c, d), number)?;
+    }
+    Ok(())
 }
 
 // A refused layer gives the symmetry below back.
@@ -74,94 +81,51 @@ fn recast_p4() -> Result<(), Fail> {
         return Err(Fail::new("refused"));
     };
     check_eq(reach_of(&symmetry), (62_500, 2048))?;
-    check_eq(
-        home_of(&symmetry, 5, 3),
-        Ok(Home {
-            x: 3,
-            y: 1,
-            kinds: 1,
-        }),
-    )?;
-    check_eq(
-        home_of(&symmetry, 46_845, 35_070),
-        Ok(Home {
-            x: 3,
-            y: 1,
-            kinds: 1,
-        }),
-    )?;
-    check_eq(home_of(&symmetry, -62_501, -62_500), Err(2))
+    for (x, y, expected) in [
+        (5, 3, at_home(3, 1, 1)),
+        (46_845, 35_070, at_home(3, 1, 1)),
+        (-62_501, -62_500, Err(2)),
+    ] {
+        check_eq(home_of(&symmetry, x, y), expected)?;
+    }
+    Ok(())
 }
 
 // Over pm the mirrors turn odd: (1, 2) and (5, 2) have one home with opposite parities, and (3, 2) is neutral.
 #[test]
 fn counterchanged_pm() -> Result<(), Fail> {
     let symmetry = Counterchange::over(Tabled::numbered(3, 6, 6)?);
-    check_eq(
-        home_of(&symmetry, 1, 2),
-        Ok(Home {
-            x: 1,
-            y: 2,
-            kinds: 1,
-        }),
-    )?;
-    check_eq(
-        home_of(&symmetry, 5, 2),
-        Ok(Home {
-            x: 1,
-            y: 2,
-            kinds: 8,
-        }),
-    )?;
-    check_eq(
-        home_of(&symmetry, 7, 2),
-        Ok(Home {
-            x: 1,
-            y: 2,
-            kinds: 1,
-        }),
-    )?;
-    check_eq(
-        home_of(&symmetry, 3, 2),
-        Ok(Home {
-            x: 3,
-            y: 2,
-            kinds: 9,
-        }),
-    )
+    for (x, y, expected) in [
+        (1, 2, at_home(1, 2, 1)),
+        (5, 2, at_home(1, 2, 8)),
+        (7, 2, at_home(1, 2, 1)),
+        (3, 2, at_home(3, 2, 9)),
+    ] {
+        check_eq(home_of(&symmetry, x, y), expected)?;
+    }
+    Ok(())
 }
 
-// The order of layers matters.
 #[test]
-fn shift_over_recast_and_recast_over_shift() -> Result<(), Fail> {
+fn shift_over_recast() -> Result<(), Fail> {
     let Ok(recast) = Recast::over(Tabled::numbered(10, 4, 4)?, 1, 1, 0, 1) else {
         return Err(Fail::new("refused"));
     };
-    let Ok(shifted) = Shift::over(recast, 1, 2) else {
+    let Ok(symmetry) = Shift::over(recast, 1, 2) else {
         return Err(Fail::new("refused"));
     };
-    check_eq(reach_of(&shifted), (62_498, 2050))?;
-    check_eq(
-        home_of(&shifted, 6, 5),
-        Ok(Home {
-            x: 4,
-            y: 3,
-            kinds: 1,
-        }),
-    )?;
+    check_eq(reach_of(&symmetry), (62_498, 2050))?;
+    check_eq(home_of(&symmetry, 6, 5), at_home(4, 3, 1))
+}
+
+#[test]
+fn recast_over_shift() -> Result<(), Fail> {
     let Ok(shift) = Shift::over(Tabled::numbered(10, 4, 4)?, 1, 2) else {
         return Err(Fail::new("refused"));
     };
-    let Ok(recasted) = Recast::over(shift, 1, 1, 0, 1) else {
+    let Ok(symmetry) = Recast::over(shift, 1, 1, 0, 1) else {
         return Err(Fail::new("refused"));
     };
-    check_eq(reach_of(&recasted), (62_499, 2080))?;
-    check_eq(
-        home_of(&recasted, 8, 5),
-        Ok(Home {
-            x: 6,
-            y: 3,
-            kinds: 1,
-        }),
-    )
+    check_eq(reach_of(&symmetry), (62_499, 2080))?;
+    check_eq(home_of(&symmetry, 8, 5), at_home(6, 3, 1))
 }

@@ -4,13 +4,13 @@ use mathlib.Core.Bool.{Bool, true, false, not}
 use mathlib.Core.Logic.{_⊎_}
 use Prim.Native.Nat.{ℕ, _≤_}
 use native.Mathlib.Omega.{arith}
-use lib.IntN.{ℤ, pos, negsuc, _*ℤ_, *ℤ-comm}
+use lib.IntN.{ℤ, pos, negsuc, _*ℤ_}
 use borrow.Author.Differences.{ints}
 use Rattle.plane.specs.declared.cell.Cell.{Cell}
-use Rattle.plane.specs.Operation.{Operation, carry, compose, identity, determinant, sign, turned, with-parity, Unimodular, xor}
+use Rattle.plane.specs.Operation.{Operation, carry, compose, identity, determinant, turned, with-parity, xor}
 use Rattle.plane.specs.Cells.{Within}
 use Rattle.plane.specs.Meaning.{Meaning}
-use Rattle.plane.specs.Laws.{Group, Lawful, Carried, CarriedAs}
+use Rattle.plane.specs.Laws.{Group, Lawful}
 use Rattle.layers.specs.Conjugate.{conjugated}
 use Rattle.plane.proofs.Maps.{regroup}
 use Rattle.plane.proofs.Algebra.{compose-assoc, carry-compose, carry-identity, identity-left, identity-right, determinant-compose, xor-false}

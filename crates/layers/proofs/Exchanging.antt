@@ -1,16 +1,14 @@
 -- The laws of a counterchanged symmetry.
 use mathlib.Core.Path.{_≡_, refl, sym, ap, _∙_, subst}
 use mathlib.Core.Bool.{Bool, true, false, not}
-use Prim.Native.Nat.{ℕ}
-use lib.IntN.{ℤ}
 use Rattle.plane.specs.declared.cell.Cell.{Cell}
 use Rattle.plane.specs.declared.kinds.Kinds.{Kinds}
-use Rattle.plane.specs.Operation.{Operation, carry, compose, identity, determinant, sign, negative, improper, turned, with-parity, Unimodular, xor}
+use Rattle.plane.specs.Operation.{Operation, compose, identity, negative, improper, turned, with-parity, Unimodular, xor}
 use Rattle.plane.specs.Meaning.{Meaning}
 use Rattle.plane.specs.Laws.{Group, Lawful, Carried, CarriedAs}
 use Rattle.plane.specs.Kinds.{has}
 use Rattle.layers.specs.Counterchange.{twist, exchanged, counterchanged}
-use Rattle.plane.proofs.Algebra.{xor-same, xor-assoc, improper-compose, negative-sign}
+use Rattle.plane.proofs.Algebra.{xor-same, improper-compose, negative-sign}
 
 twist-twist : (g : Operation) → twist (twist g) ≡ g
 twist-twist g = ap (λ b. with-parity b g) (xor-same (g .odd) (improper g))

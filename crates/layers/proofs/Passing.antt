@@ -14,12 +14,10 @@ use Rattle.plane.specs.Meaning.{Meaning, Alike, extent-of, answer, folded}
 use Rattle.plane.specs.Laws.{Lawful}
 use Rattle.plane.proofs.Folding.{inside-within, within-inside}
 use Rattle.layers.specs.declared.refused.LayerRefused.{LayerRefused}
-use Rattle.layers.specs.declared.vector.Vector.{Vector}
-use Rattle.layers.specs.declared.matrix.Matrix.{Matrix}
 use Rattle.layers.specs.declared.layer.Layer.{Layer}
 use Rattle.layers.specs.declared.layer.Layer.the-variants.{Shift, Recast, Counterchange}
 use Rattle.layers.specs.Refusals.{verdict, judged, settled, roomy}
-use Rattle.layers.specs.Shift.{reach, short, moved-by, shift-extent}
+use Rattle.layers.specs.Shift.{short, moved-by, shift-extent}
 use Rattle.layers.specs.Recast.{fair, recast-by, recast-extent}
 use Rattle.layers.specs.Counterchange.{counterchanged}
 use Rattle.layers.specs.Layer.{layer-extent, laid, layered, down, up, recounted, settled-extent, in-span, lower, lowered, raise, raised}

@@ -1,6 +1,6 @@
 -- The laws of a shifted symmetry.
 use mathlib.Core.Path.{_≡_, refl}
-use Prim.Native.Nat.{ℕ, _≤_, _<_, _+_, _-_, max}
+use Prim.Native.Nat.{ℕ, _≤_, _<_, _+_, _-_}
 use native.Mathlib.Omega.{arith}
 use lib.IntN.{ℤ, pos, _+ℤ_, _*ℤ_, negℤ, natAbs}
 use borrow.Author.Differences.{ints}

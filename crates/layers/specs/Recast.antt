@@ -3,7 +3,7 @@
 --     small    no entry is beyond 8 either way
 --     fair     small, with a determinant of 1 or -1
 use mathlib.Core.Bool.{Bool, false, _&&_}
-use Prim.Native.Nat.{ℕ, _*_, _/_}
+use Prim.Native.Nat.{_*_, _/_}
 use lib.Dec.{leb, eqb}
 use lib.IntN.{ℤ, pos, negℤ, natAbs, _+ℤ_, _-ℤ_, _*ℤ_}
 use Rattle.std.specs.declared.result.Result.{Result}

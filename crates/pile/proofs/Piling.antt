@@ -1,8 +1,7 @@
 -- The laws of a pile, its extent and its folds, by induction on its levels.
-use mathlib.Core.Path.{_≡_, refl, sym, ap, ap₂, _∙_, subst}
+use mathlib.Core.Path.{_≡_, refl, sym, ap, _∙_, subst}
 use mathlib.Core.Bool.{Bool, true, false, _&&_, cond}
 use mathlib.Core.List.{List, [], _∷_, _++_}
-use Prim.Native.Nat.{ℕ}
 use lib.Dec.{eqb}
 use borrow.Author.Tests.{eqb-true, eq-eqb, both-ways}
 use Rattle.std.specs.declared.result.Result.{Result}
@@ -16,7 +15,7 @@ use Rattle.plane.specs.Laws.{Lawful}
 use Rattle.layers.specs.Layer.{layer-extent, laid, layered, settled-extent, lowered, raised}
 use Rattle.layers.proofs.Passing.{then, passed, layer-laws, extent-layered, laid-alike}
 use Rattle.pile.specs.declared.levels.Level.{Level}
-use Rattle.pile.specs.Levels.{piled, same-extent, levelled, level-extent, top-extent, lowered-by, lowered-through, raised-through}
+use Rattle.pile.specs.Levels.{piled, same-extent, levelled, top-extent, lowered-by, lowered-through, raised-through}
 
 both : (a b : Bool) → a && b ≡ true → (a ≡ true) × (b ≡ true)
 both true b e = (refl, e)

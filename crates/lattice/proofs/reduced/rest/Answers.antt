@@ -2,11 +2,11 @@ use mathlib.Core.Path.{_≡_, ap, ap₂, _∙_}
 use Prim.Native.Nat.{ℕ, _/_, _%_, _≤_}
 use native.Mathlib.Omega.{arith}
 use native.Mathlib.Nat.{div-le-self}
-use lib.IntN.{ℤ, pos, _-ℤ_, _*ℤ_}
+use lib.IntN.{pos, _-ℤ_, _*ℤ_}
 use borrow.Author.Differences.{ints}
 use mir.Syntax.{w64}
 use mir.Val.{toZ}
-use Rattle.ints.proofs.Sizes.{z64, through-64, difference-is}
+use Rattle.ints.proofs.Sizes.{through-64, difference-is}
 use Rattle.lattice.proofs.reduced.rest.Needs as need
 
 unsigned : (n : ℕ) → n ≤ 256 → toZ w64 n ≡ pos n

@@ -1,5 +1,3 @@
-use Rattle.plane.specs.Operation.{Operation}
-use Rattle.lattice.specs.Lattice.{lattice}
 use Rattle.lattice.specs.Theorems.{SameLattice}
 use Rattle.lattice.proofs.Reducing.{into-basis, from-basis}
 use Rattle.lattice.proofs.OneOnly.{one-reduction}

@@ -1,4 +1,4 @@
-use mathlib.Core.Path.{_≡_, sym, ap, _∙_}
+use mathlib.Core.Path.{sym, ap, _∙_}
 use Rattle.std.specs.declared.result.Result.{Result}
 use Rattle.plane.specs.declared.fold.Extent.{Extent}
 use Rattle.plane.specs.Meaning.{Meaning, extent-of}

@@ -1,4 +1,4 @@
-use mathlib.Core.Path.{_≡_, _∙_}
+use mathlib.Core.Path.{_∙_}
 use native.Mathlib.Omega.{arith}
 use Rattle.pile.proofs.Leveling.{top-none, top-is}
 use Rattle.pile.proofs.levels.extent_of_top.Needs as need

@@ -1,10 +1,9 @@
-use mathlib.Core.Path.{_≡_, sym, ap, _∙_, subst}
+use mathlib.Core.Path.{_≡_, sym, ap}
 use mir.Syntax.{w64}
 use Rattle.ints.proofs.Sizes.{z64}
 use Rattle.std.proofs.shelf.Signed.{toZ-ofZ}
 use Rattle.lattice.specs.declared.vectors.Vectors.{Vectors}
 use Rattle.lattice.specs.declared.reduced.Reduced.{Reduced}
-use Rattle.lattice.specs.Reduction.{reduction}
 use Rattle.lattice.proofs.Accepting.{accepted, answered}
 use Rattle.lattice.proofs.Boxing.{homes-in-box}
 use Rattle.lattice.proofs.oblique.Oblique.over.Needs as need

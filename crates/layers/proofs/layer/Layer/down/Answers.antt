@@ -1,4 +1,4 @@
-use mathlib.Core.Path.{_≡_, sym, ap, _∙_}
+use mathlib.Core.Path.{sym, ap, _∙_}
 use Rattle.layers.specs.Recast.{small}
 use Rattle.layers.specs.Layer.{keeps}
 use Rattle.layers.proofs.Recasting.{inverse-test}

@@ -1,7 +1,5 @@
-use mathlib.Core.Path.{_≡_, ap₂, _∙_}
 use native.Mathlib.Omega.{arith}
 use lib.Dec.{lit≤}
-use lib.IntN.{_+ℤ_, _*ℤ_}
 use Rattle.layers.proofs.Fairness.{small-is, held}
 use Rattle.layers.proofs.matrix.Matrix.applied.Needs as need
 

@@ -5,7 +5,7 @@ use lib.Dec.{lit≤}
 use lib.IntN.{ℤ, natAbs, negℤ, _*ℤ_}
 use Rattle.ints.proofs.Sizes.{z64, through-64}
 use Rattle.layers.specs.declared.matrix.Matrix.{Matrix}
-use Rattle.layers.specs.Recast.{volume, inverse}
+use Rattle.layers.specs.Recast.{volume}
 use Rattle.layers.proofs.Fairness.{fair-is, held, negated}
 use Rattle.layers.proofs.matrix.Matrix.inverse.Needs as need
 

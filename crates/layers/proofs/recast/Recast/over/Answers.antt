@@ -2,7 +2,7 @@ use mathlib.Core.Path.{_≡_, ap, _∙_, subst}
 use mir.Syntax.{w64}
 use Rattle.ints.proofs.Sizes.{z64}
 use Rattle.std.specs.declared.result.Result.{Result}
-use Rattle.std.specs.declared.result.Result.the-variants.{Ok, Err}
+use Rattle.std.specs.declared.result.Result.the-variants.{Ok}
 use Rattle.std.proofs.shelf.Signed.{toZ-ofZ}
 use Rattle.plane.specs.declared.fold.Extent.{Extent}
 use Rattle.plane.specs.Meaning.{Meaning, Alike, extent-of}

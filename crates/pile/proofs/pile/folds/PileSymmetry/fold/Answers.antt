@@ -8,11 +8,10 @@ use Rattle.plane.specs.declared.cell.Cell.{Cell}
 use Rattle.plane.specs.declared.fold.Fold.{Fold}
 use Rattle.plane.specs.declared.fold.FoldRefused.{FoldRefused}
 use Rattle.plane.specs.Meaning.{Meaning, folded}
-use Rattle.plane.specs.Laws.{Lawful}
 use Rattle.layers.proofs.Passing.{then}
 use Rattle.pile.specs.declared.levels.Level.{Level}
 use Rattle.pile.specs.Base.{based}
-use Rattle.pile.specs.Levels.{piled, levelled, lowered-through, raised-through}
+use Rattle.pile.specs.Levels.{piled, lowered-through, raised-through}
 use Rattle.pile.proofs.Basing.{base-laws}
 use Rattle.pile.proofs.Piling.{pile-fold}
 use Rattle.pile.proofs.pile.folds.PileSymmetry.fold.Needs as need
