@@ -43,7 +43,7 @@ layered (Shift w) m = shifted w m
 layered (Recast w) m = recasted w m
 layered Counterchange m = counterchanged m
 
--- where a cell goes below, and where a home below comes from
+-- where a cell goes below, and where a home from below goes
 abbrev pub down : Layer → Cell → Cell
 down (Shift w) p = moved (reverse w) p
 down (Recast w) p = applied (inverse w) p
@@ -54,20 +54,23 @@ up (Shift w) p = moved w p
 up (Recast w) p = applied w p
 up Counterchange p = p
 
+-- the kinds, from the kinds below
 abbrev pub recounted : Layer → Kinds → Kinds
 recounted (Shift w) k = k
 recounted (Recast w) k = k
 recounted Counterchange k = exchanged k
 
--- the extent of the layer's meaning
+-- the extent of a layer that is held over a symmetry
 abbrev pub settled-extent : Result Extent LayerRefused → Extent → Extent
 settled-extent (Ok own) below = own
 settled-extent (Err why) below = below
 
+-- the cell, if it is within the span
 abbrev pub in-span : Bool → Cell → Result Cell FoldRefused
 in-span true p = Ok p
 in-span false p = Err OffSpan
 
+-- by the layer's extent, or its refusal
 abbrev pub lower : Result Extent LayerRefused → Layer → Cell → Result Cell FoldRefused
 lower (Ok own) l p = in-span (inside (own .span) p) (down l p)
 lower (Err why) l p = Ok p
