@@ -55,7 +55,7 @@ fn stirred(seed: u64) -> u64 {
         .wrapping_add(1442695040888963407)
 }
 
-// One put and one look, by the bits of the seed.
+// One put and one look, by the bits of the random number.
 fn step<C: Canvas>(canvas: &mut C, model: &mut Model, seed: u64) -> Result<(), Fail> {
     let x = model
         .left

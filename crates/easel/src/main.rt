@@ -9,6 +9,7 @@ use dense::dense::holds::DenseHolds;
 use plane::cell::Cell;
 use plane::cell::CellPartialEq;
 use request::Request;
+use request::RequestFromStr;
 use sparse::record::CellRecord;
 use sparse::sparse::SparseCanvas;
 use sparse::sparse::holds::SparseHolds;
@@ -77,15 +78,15 @@ fn main(rt: LibcRuntime) -> io::Result<()> {
     let mut cells = Vec::new(rt.alloc());
     for line in rt.lines(rt.alloc()) {
         let text = line?;
-        match request::read(text.as_str()) {
-            Some(request) => {
+        match text.as_str().parse::<Request>() {
+            Ok(request) => {
                 put_on(&rt, "dense", &mut dense, request)?;
                 put_on(&rt, "sparse", &mut sparse, request)?;
                 if !cells.as_slice().contains(&request.at) {
                     cells.push(request.at)?;
                 }
             }
-            None => println!(rt, "not a cell and an ink: {text}")?,
+            Err(_) => println!(rt, "not a cell and an ink: {text}")?,
         }
     }
     tell_held(&rt, "dense", &dense, cells.as_slice())?;

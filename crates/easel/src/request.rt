@@ -1,5 +1,6 @@
 // Lines of the input.
 use plane::cell::Cell;
+use std::str::FromStr;
 
 // An ink for a cell.
 #[derive(Clone, Copy)]
@@ -9,7 +10,7 @@ pub struct Request {
 }
 
 // A column, a row and an ink, in decimal, with nothing after them.
-pub fn read(line: &str) -> Option<Request> {
+fn read(line: &str) -> Option<Request> {
     let mut words = line.split_whitespace();
     let x = words.next()?.parse::<i64>().ok()?;
     let y = words.next()?.parse::<i64>().ok()?;
@@ -20,5 +21,20 @@ pub fn read(line: &str) -> Option<Request> {
             at: Cell { x, y },
             ink,
         }),
+    }
+}
+
+// A line that is no request.
+#[derive(Clone, Copy)]
+pub struct Misread;
+
+pub impl FromStr for Request as RequestFromStr {
+    type Err = Misread;
+
+    fn from_str(line: &str) -> Result<Request, Misread> {
+        match read(line) {
+            Some(request) => Ok(request),
+            None => Err(Misread),
+        }
     }
 }
