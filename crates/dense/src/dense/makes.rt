@@ -48,7 +48,11 @@ impl<'a> DenseCanvas<'a> {
             width: wide,
             height: high,
         };
-        let grid = Grid { bytes, area, held: 0 };
+        let grid = Grid {
+            bytes,
+            area,
+            held: 0,
+        };
         DenseCanvas { grid }
     }
 }

@@ -25,8 +25,12 @@ fn offset(from: i32, count: u16, x: i64) -> Option<u16>
 fn place(area: Area, at: Cell) -> Option<usize>
     ensures { λ r. ⌜ r ≡ place-if area at ⌝ }
 {
-    let Some(column) = offset(area.x, area.width, at.x) else { return None; };
-    let Some(row) = offset(area.y, area.height, at.y) else { return None; };
+    let Some(column) = offset(area.x, area.width, at.x) else {
+        return None;
+    };
+    let Some(row) = offset(area.y, area.height, at.y) else {
+        return None;
+    };
     Some(usize::from(row) * usize::from(area.width) + usize::from(column))
 }
 
@@ -70,7 +74,9 @@ pub(crate) fn put(grid: &mut Grid, at: Cell, ink: u8) -> Result<(), PutRefused>
     if ink > 15 {
         return Err(PutRefused::Ink);
     }
-    let Some(i) = place(grid.area, at) else { return Err(PutRefused::Frame); };
+    let Some(i) = place(grid.area, at) else {
+        return Err(PutRefused::Frame);
+    };
     let old = grid.bytes[i];
     grid.held = recount(old, ink, grid.held);
     grid.bytes[i] = ink;

@@ -1,0 +1,92 @@
+// Why a sheet's call is refused.
+ghost use mathlib.Core.Path.{_≡_};
+ghost use Rattle.sheet.specs.Refusals.{lay-number, stroke-number, window-number};
+use canvas::refusal::PutRefused;
+use canvas::refusal::PutRefusedDebug;
+use canvas::refusal::PutRefusedEq;
+use canvas::refusal::PutRefusedPartialEq;
+
+// Why a cell is not laid.
+#[derive(Clone, Copy, PartialEq, Eq, Debug)]
+pub enum LayRefused {
+    // The cell is neutral, and the ink is not its own counterpart.
+    Clash,
+    // The canvas refuses the put.
+    Canvas(PutRefused),
+}
+
+// Why a stroke is refused, or stops.
+#[derive(Clone, Copy, PartialEq, Eq, Debug)]
+pub enum StrokeRefused {
+    // The sheet has 65,535 strokes.
+    TooManyStrokes,
+    // The ink is above 15.
+    Ink,
+    // An end is off the span.
+    OffSpan,
+    // The line has more than 4,096 cells.
+    TooLong,
+    // One of its cells is not laid.
+    Stopped(LayRefused),
+}
+
+// A stroke that was refused or stopped, with how many of its cells were laid.
+#[derive(Clone, Copy, PartialEq, Eq, Debug)]
+pub struct StrokeStopped {
+    pub refusal: StrokeRefused,
+    pub laid: u16,
+}
+
+// Why a window is refused.
+#[derive(Clone, Copy, PartialEq, Eq, Debug)]
+pub enum WindowRefused {
+    // A side is below 1 or above 128.
+    Side,
+    // A cell of the window is off the span.
+    OffSpan,
+    // The palette does not have 48 bytes.
+    Palette,
+    // The output is too short.
+    Output,
+}
+
+impl LayRefused {
+    // The refusal's number.
+    pub fn number(self) -> u8
+        ensures { λ r. ⌜ r ≡ lay-number self ⌝ }
+    {
+        match self {
+            LayRefused::Clash => 3,
+            LayRefused::Canvas(why) => why.number(),
+        }
+    }
+}
+
+impl StrokeRefused {
+    // The refusal's number.
+    pub fn number(self) -> u8
+        ensures { λ r. ⌜ r ≡ stroke-number self ⌝ }
+    {
+        match self {
+            StrokeRefused::TooManyStrokes => 7,
+            StrokeRefused::Ink => 1,
+            StrokeRefused::OffSpan => 2,
+            StrokeRefused::TooLong => 6,
+            StrokeRefused::Stopped(why) => why.number(),
+        }
+    }
+}
+
+impl WindowRefused {
+    // The refusal's number.
+    pub fn number(self) -> u8
+        ensures { λ r. ⌜ r ≡ window-number self ⌝ }
+    {
+        match self {
+            WindowRefused::Side => 8,
+            WindowRefused::OffSpan => 2,
+            WindowRefused::Palette => 10,
+            WindowRefused::Output => 9,
+        }
+    }
+}
