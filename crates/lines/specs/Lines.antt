@@ -3,10 +3,12 @@
 --     step      a line has reach + 1 cells, at the steps 0 to reach
 --     moved     how far a coordinate has moved at a step: the one with the larger difference by the number of the step, the other by its share of it, rounded to the nearest whole number, a half up
 --     toward    by so much in the direction of a difference
+use mathlib.Core.Path.{_≡_}
 use mathlib.Core.Bool.{cond}
 use mathlib.Core.List.{List, [], _∷_}
 use Prim.Native.Nat.{ℕ, zero, suc, _+_, _*_, _/_, max}
 use lib.Dec.{eqb}
+use lib.ListN.{getD, length}
 use lib.IntN.{ℤ, pos, negsuc, natAbs, negℤ, _+ℤ_, _-ℤ_}
 use Rattle.plane.specs.declared.cell.Cell.{Cell}
 use Rattle.plane.specs.Cells.{Within}
@@ -48,3 +50,10 @@ top-length = 4096
 abbrev pub AllWithin : ℕ → List Cell → Type 0
 AllWithin n [] = Unit {0}
 AllWithin n (p ∷ ps) = Within n p × AllWithin n ps
+
+-- cells that go from one end to the other, as many as the reach asks for, and never leave a bound on both ends
+pub record Joins (from to : Cell) (cells : List Cell) : Type 0 where
+  pub count : length cells ≡ suc (reach from to)
+  pub first : (other : Cell) → getD cells 0 other ≡ from
+  pub last : (other : Cell) → getD cells (reach from to) other ≡ to
+  pub between : (n : ℕ) → Within n from → Within n to → AllWithin n cells
