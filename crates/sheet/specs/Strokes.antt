@@ -75,6 +75,11 @@ dotted m strokes b at mark = stroked m strokes b mark at at (at ∷ [])
 abbrev pub lined : Meaning → ℕ → Board → Cell → Cell → Mark → Stroked
 lined m strokes b from to mark = stroked m strokes b mark from to (line-cells from to)
 
+-- a refusal, if there is one, as a result
+abbrev pub verdict : Option StrokeRefused → Result (Unit {0}) StrokeRefused
+verdict (Some why) = Err why
+verdict None = Ok tt
+
 abbrev pub told : Option StrokeRefused → ℕ → Result ℕ StrokeStopped
 told (Some why) laid = Err (record { refusal = why; laid = laid })
 told None laid = Ok laid
