@@ -45,11 +45,11 @@ drop-end (p ∷ ps) zero h = absurd (let k : suc (length ps) ≤ 0 = h in omega 
 drop-end (p ∷ ps) (suc i) h = drop-end ps i (let k : suc (length ps) ≤ suc i = h in omega arith)
 
 -- the answer of a laying tells its refusal
-lay-none : (o : Option LayRefused) (u : Unit {0}) → Ok u ≡ lay-answer o → o ≡ None
+pub lay-none : (o : Option LayRefused) (u : Unit {0}) → Ok u ≡ lay-answer o → o ≡ None
 lay-none (Some why) u e = cc
 lay-none None u e = refl
 
-lay-some : (o : Option LayRefused) (why : LayRefused) → Err why ≡ lay-answer o → o ≡ Some why
+pub lay-some : (o : Option LayRefused) (why : LayRefused) → Err why ≡ lay-answer o → o ≡ Some why
 lay-some (Some w) why e = cc
 lay-some None why e = cc
 

@@ -17,6 +17,9 @@ use Rattle.sheet.specs.declared.refusal.LayRefused.{LayRefused}
 use Rattle.sheet.specs.declared.refusal.LayRefused.the-variants.{Clash, Canvas}
 use Rattle.sheet.specs.Tints.{all-odd, clash, tinted}
 
+abbrev pub marked : ℕ → Mark
+marked ink = record { ink = ink }
+
 -- the ink that the home of a cell gets
 abbrev pub home-ink : Meaning → Cell → Mark → ℕ
 home-ink m p mark = tinted (all-odd (m .kinds p)) (mark .ink)

@@ -80,10 +80,11 @@ abbrev pub verdict : Option StrokeRefused → Result (Unit {0}) StrokeRefused
 verdict (Some why) = Err why
 verdict None = Ok tt
 
-abbrev pub told : Option StrokeRefused → ℕ → Result ℕ StrokeStopped
-told (Some why) laid = Err (record { refusal = why; laid = laid })
-told None laid = Ok laid
+-- a result with the number of cells that were laid
+abbrev pub told : Result (Unit {0}) StrokeRefused → ℕ → Result ℕ StrokeStopped
+told (Ok done) laid = Ok laid
+told (Err why) laid = Err (record { refusal = why; laid = laid })
 
 -- what a stroke answers
 abbrev pub stroke-answer : Stroked → Result ℕ StrokeStopped
-stroke-answer s = told (s .refusal) (s .laid)
+stroke-answer s = told (verdict (s .refusal)) (s .laid)

@@ -2,4 +2,5 @@
 mod laying;
 pub mod mark;
 pub mod refusal;
+mod strokes;
 mod tints;
