@@ -22,7 +22,7 @@ use Rattle.sheet.specs.declared.refusal.StrokeRefused.{StrokeRefused}
 use Rattle.sheet.specs.declared.refusal.StrokeRefused.the-variants.{TooManyStrokes, Ink, OffSpan, TooLong}
 use Rattle.sheet.specs.declared.refusal.LayRefused.{LayRefused}
 use Rattle.sheet.specs.Laying.{Laid, lay-all, lay-answer, lay-board, lay-next, lay-refusal}
-use Rattle.sheet.specs.Strokes.{Stroked, attempt, by-laying, entry-refusal, length-refusal, or-else, stroke-refusal, stroked, top-strokes, verdict}
+use Rattle.sheet.specs.Strokes.{Stroked, attempt, by-laying, entry-refusal, length-refusal, or-else, stroke-refusal, stroked, strokes-after, top-strokes, verdict}
 use Rattle.sheet.proofs.Ahead.{lay-none, lay-some, stays}
 
 -- a verdict tells its refusal
@@ -112,3 +112,11 @@ dot-stopped m b at mark why e =
     let refused = lay-some (lay-refusal m b at mark) why e in
     ap (λ o. lay-next o b (lay-all m (lay-board m b at mark) mark [])) refused
     ∙ ap (λ z. record { count = 0; stop = Some why; board = z }) (sym (stays m b at mark why refused))
+
+-- ---- the strokes of the sheet
+counted : (o : Option StrokeRefused) (strokes : ℕ) (b : Board) (l : Laid) → strokes-after strokes (attempt o strokes b l .laid) ≡ attempt o strokes b l .strokes
+counted (Some why) strokes b l = refl
+counted None strokes b l = refl
+
+pub strokes-counted : (m : Meaning) (strokes : ℕ) (b : Board) (mark : Mark) (from to : Cell) (cells : List Cell) → strokes-after strokes (stroked m strokes b mark from to cells .laid) ≡ stroked m strokes b mark from to cells .strokes
+strokes-counted m strokes b mark from to cells = counted (stroke-refusal m strokes mark from to cells) strokes b (lay-all m b mark cells)

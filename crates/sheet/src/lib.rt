@@ -2,5 +2,7 @@
 mod laying;
 pub mod mark;
 pub mod refusal;
+pub mod sheet;
 mod strokes;
 mod tints;
+mod views;
