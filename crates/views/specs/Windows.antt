@@ -70,6 +70,10 @@ picture-size width height = length (header width height) + 3 * (width * height)
 abbrev pub wrong-side : ℤ → Bool
 wrong-side n = ltZ n (pos 1) || ltZ (pos 128) n
 
+-- a side as a number, unless it is wrong
+abbrev pub side-of : ℤ → Result ℕ WindowRefused
+side-of n = cond (wrong-side n) (Err Side) (Ok (natAbs n))
+
 -- why a window is refused, if it is; of the palette and the output only the lengths count
 abbrev pub window-refusal : ℕ → Cell → ℤ → ℤ → ℕ → ℕ → Option WindowRefused
 window-refusal span corner width height palette output =
