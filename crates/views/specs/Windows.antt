@@ -1,7 +1,7 @@
 -- The bytes of a window: a binary PPM picture of the cells of a rectangle.
 --     corner    the cell of the rectangle with the least column and the least row
 --     palette   48 bytes: red, green and blue for each of the inks 0 to 15
-use mathlib.Core.Bool.{Bool, true, false, cond, _&&_, _||_, not}
+use mathlib.Core.Bool.{Bool, cond, _||_, not}
 use mathlib.Core.List.{List, [], _∷_, _++_}
 use Prim.Native.Nat.{ℕ, zero, suc, _+_, _*_, _/_, _%_}
 use lib.Dec.{eqb, ltb}

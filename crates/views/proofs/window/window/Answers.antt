@@ -1,6 +1,6 @@
 use mathlib.Core.Path.{_≡_, refl, sym, ap, ap₂, _∙_, subst}
 use mathlib.Core.Bool.{true}
-use Prim.Native.Nat.{ℕ, _+_, _*_, _≤_, _<_}
+use Prim.Native.Nat.{_+_, _≤_, _<_}
 use native.Mathlib.Omega.{arith}
 use lib.ListN.{length}
 use mir.Syntax.{w64}
@@ -8,7 +8,7 @@ use Rattle.std.specs.declared.result.Result.the-variants.{Ok, Err}
 use Rattle.std.proofs.shelf.Results.{err-from-errBy}
 use Rattle.std.proofs.shelf.Signed.{toZ-ofZ}
 use Rattle.plane.specs.Cells.{all-inside}
-use Rattle.views.specs.Windows.{header, picture, picture-size, pixels, side-of, window-cells, written-over}
+use Rattle.views.specs.Windows.{header, picture-size, pixels, side-of, window-cells, written-over}
 use Rattle.views.proofs.Cells.{all-within}
 use Rattle.views.proofs.Corners.{corner-near}
 use Rattle.views.proofs.Judging.{covered-is, picture-is, refused-height, refused-output, refused-palette, refused-span, refused-width, side-dropped, side-least, side-taken, written}

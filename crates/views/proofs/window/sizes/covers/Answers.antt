@@ -1,4 +1,4 @@
-use mathlib.Core.Path.{_≡_, sym, ap, _∙_}
+use mathlib.Core.Path.{sym, ap, _∙_}
 use Rattle.plane.specs.Cells.{inside}
 use Rattle.views.proofs.Corners.{corner-in, corner-out}
 use Rattle.views.proofs.window.sizes.covers.Needs as need
