@@ -1,6 +1,6 @@
 -- A put and a clearing keep the laws of a board.
-use mathlib.Core.Path.{_≡_, refl, sym, ap, _∙_, subst}
-use mathlib.Core.Bool.{Bool, true, false, cond}
+use mathlib.Core.Path.{_≡_, refl, sym, _∙_, subst}
+use mathlib.Core.Bool.{true}
 use mathlib.Core.List.{List, [], _∷_}
 use mathlib.Core.Logic.{_⊎_, inl, inr, _↔_}
 use Prim.Native.Nat.{ℕ, _+_, _-_, _≤_, _<_}
@@ -11,7 +11,7 @@ use Rattle.std.proofs.shelf.Tests.{cond-true, cond-false, cases-eq, eq-eqb, ne-
 use Rattle.plane.specs.declared.cell.Cell.{Cell}
 use Rattle.plane.specs.Cells.{same}
 use Rattle.canvas.specs.Board.{Board, BoardLaws, with-ink, held-after, cleared}
-use Rattle.canvas.specs.Distinct.{Member, Distinct, Lists}
+use Rattle.canvas.specs.Distinct.{Member, Lists}
 use Rattle.canvas.proofs.Sameness.{Decided, same-decides}
 use Rattle.canvas.proofs.Listing.{without, length-without, stays, within-rest, distinct-rest}
 
@@ -24,20 +24,6 @@ lists-like P Q qs same l = record { distinct = l .distinct; exact = λ p. (λ m.
 module _ (b : Board) (p : Cell) (j : ℕ) where
   abbrev after : Board
   after = with-ink b p j
-
-  at-p : after .inks p ≡ j
-  at-p = go (same-decides p p)
-    where
-      go : Decided p p (same p p) → cond (same p p) j (b .inks p) ≡ j
-      go (inl d) = cond-true (same p p) j (b .inks p) (d .0)
-      go (inr d) = absurd (d .1 refl)
-
-  elsewhere : (q : Cell) → (q ≡ p → ⊥) → after .inks q ≡ b .inks q
-  elsewhere q n = go (same-decides q p)
-    where
-      go : Decided q p (same q p) → cond (same q p) j (b .inks q) ≡ b .inks q
-      go (inl d) = absurd (n (d .1))
-      go (inr d) = cond-false (same q p) j (b .inks q) (d .0)
 
   either : (q : Cell) → ((q ≡ p) × (after .inks q ≡ j)) ⊎ ((q ≡ p → ⊥) × (after .inks q ≡ b .inks q))
   either q = go (same-decides q p)

@@ -1,8 +1,8 @@
 -- Lists of distinct cells, with one cell taken out.
 use mathlib.Core.Path.{_≡_, refl, sym, ap, _∙_, subst}
 use mathlib.Core.List.{List, [], _∷_}
-use mathlib.Core.Logic.{_⊎_, inl, inr}
-use Prim.Native.Nat.{ℕ, suc}
+use mathlib.Core.Logic.{inl, inr}
+use Prim.Native.Nat.{suc}
 use lib.ListN.{length}
 use Rattle.plane.specs.declared.cell.Cell.{Cell}
 use Rattle.canvas.specs.Distinct.{Member, Distinct}

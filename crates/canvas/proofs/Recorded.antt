@@ -2,7 +2,7 @@
 use mathlib.Core.Path.{_≡_, refl, sym, ap, _∙_, subst}
 use mathlib.Core.Bool.{Bool, true, false, cond, _&&_}
 use mathlib.Core.List.{List, [], _∷_}
-use mathlib.Core.Logic.{_⊎_, inl, inr, _↔_}
+use mathlib.Core.Logic.{_⊎_, inl, inr}
 use Prim.Native.Nat.{ℕ, suc, _≤_, _<_}
 use native.Mathlib.Omega.{arith}
 use lib.Dec.{leb, ltb}
@@ -15,9 +15,9 @@ use Rattle.plane.specs.declared.cell.Cell.{Cell}
 use Rattle.plane.specs.Cells.{earlier}
 use Rattle.plane.proofs.Order.{earlier-trans, earlier-flip, earlier-same}
 use Rattle.shelf.specs.Keys.{TotalOrder, leads, sorted, Sorted, found}
-use Rattle.shelf.proofs.Lookups.{found-past, found-head, found-led, found-is}
-use Rattle.canvas.specs.Board.{Board, BoardLaws}
-use Rattle.canvas.specs.Distinct.{Member, Distinct, Lists}
+use Rattle.shelf.proofs.Lookups.{found-past, found-head, found-is}
+use Rattle.canvas.specs.Board.{BoardLaws}
+use Rattle.canvas.specs.Distinct.{Member, Distinct}
 use Rattle.canvas.specs.Records.{keys, sound, all-sound, ink-of, record-board}
 
 module _ {R : Type 0} (cell : R → Cell) (ink : R → ℕ) (frame : Cell → Bool) where

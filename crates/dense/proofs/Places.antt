@@ -6,12 +6,12 @@ use Prim.Native.Nat.{ℕ, _+_, _*_, _≤_, _<_}
 use native.Mathlib.Omega.{arith}
 use lib.IntN.{natAbs, _-ℤ_}
 use lib.ListN.{length}
-use Rattle.std.proofs.shelf.Tests.{cond-true, cond-false, and-from, and-left, and-right}
+use Rattle.std.proofs.shelf.Tests.{cond-true, cond-false, and-from, and-right}
 use Rattle.std.specs.declared.option.Option.{Option}
 use Rattle.std.specs.declared.option.Option.the-variants.{Some, None}
 use Rattle.plane.specs.declared.cell.Cell.{Cell}
 use Rattle.dense.specs.declared.area.Area.{Area}
-use Rattle.dense.specs.Area.{spans, covers, place, size}
+use Rattle.dense.specs.Area.{covers, place, size}
 use Rattle.dense.specs.AreaLaws.{place-below}
 use Rattle.dense.specs.Grids.{place-if, offset-if}
 
@@ -29,9 +29,6 @@ spans-some false k m e = let z : _≡_ {A = ℕ} 0 1 = cc in absurd (no z)
     no : _≡_ {A = ℕ} 0 1 → ⊥
     no z = omega arith
 
-pub no-column : (a : Area) (p : Cell) → _≡_ {A = Option ℕ} None (offset-if (a .x) (a .width) (p .x)) → _≡_ {A = Option ℕ} None (place-if a p)
-no-column a p e = sym (cond-false (covers a p) _ _ (and-left _ _ (spans-none _ _ e)))
-
 pub no-row : (a : Area) (p : Cell) → _≡_ {A = Option ℕ} None (offset-if (a .y) (a .height) (p .y)) → _≡_ {A = Option ℕ} None (place-if a p)
 no-row a p e = sym (cond-false (covers a p) _ _ (and-right _ _ (spans-none _ _ e)))
 
@@ -47,13 +44,6 @@ uncovered a p e = spans-none _ _ e
 
 pub covered : (a : Area) (p : Cell) (i : ℕ) → _≡_ {A = Option ℕ} (Some i) (place-if a p) → (covers a p ≡ true) × (i ≡ place a p)
 covered a p i e = spans-some _ _ _ e
-
-pub index-in : (a : Area) (p : Cell) (i : ℕ) → _≡_ {A = Option ℕ} (Some i) (place-if a p) → i < size a
-index-in a p i e =
-    let s = covered a p i e in
-    let l : place a p < size a = place-below a p (s .0) in
-    let m : i ≡ place a p = s .1 in
-    omega arith
 
 pub index-lt : (a : Area) (bytes : List ℕ) (p : Cell) (i : ℕ) → size a ≤ length bytes → _≡_ {A = Option ℕ} (Some i) (place-if a p) → i < length bytes
 index-lt a bytes p i long e =

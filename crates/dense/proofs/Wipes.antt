@@ -1,16 +1,16 @@
 -- An area whose bytes are all 0 is an empty board.
-use mathlib.Core.Path.{_≡_, refl, sym, ap, _∙_, subst}
+use mathlib.Core.Path.{_≡_, sym, ap, _∙_, subst}
 use mathlib.Core.Bool.{true, false, cond}
 use mathlib.Core.List.{List, _++_}
 use mathlib.Core.Logic.{_⊎_, inl, inr}
-use Prim.Native.Nat.{ℕ, zero, suc, _+_, _*_, _≤_, _<_}
+use Prim.Native.Nat.{ℕ, _+_, _≤_, _<_}
 use native.Mathlib.Omega.{arith}
 use lib.ListN.{length, getD, drop, replicate}
 use Rattle.std.proofs.shelf.Lists.{getD-append-left, getD-replicate, length-replicate, length-append, length-drop, drop-at}
 use Rattle.std.proofs.shelf.Tests.{cond-true, cond-false, cases-bool}
 use Rattle.plane.specs.declared.cell.Cell.{Cell}
 use Rattle.dense.specs.declared.area.Area.{Area}
-use Rattle.canvas.specs.Board.{Board, cleared}
+use Rattle.canvas.specs.Board.{cleared}
 use Rattle.canvas.proofs.Tallies.{tally-zero}
 use Rattle.dense.specs.Area.{covers, place, size, area-board, Inked, inked}
 use Rattle.dense.specs.AreaLaws.{place-below}

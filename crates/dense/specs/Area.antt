@@ -3,13 +3,12 @@
 --     covers    the area has the cell
 --     place     where the cell's byte is, row by row
 --     size      how many cells the area has
-use mathlib.Core.Path.{_≡_}
 use mathlib.Core.Bool.{Bool, cond, _&&_}
 use mathlib.Core.List.{List}
-use Prim.Native.Nat.{ℕ, _+_, _*_, _/_, _%_, _≤_, _<_}
+use Prim.Native.Nat.{ℕ, _+_, _*_, _≤_, _<_}
 use lib.IntN.{ℤ, pos, natAbs, _+ℤ_, _-ℤ_}
 use lib.Signed.{ltZ, leZ}
-use lib.ListN.{length, getD}
+use lib.ListN.{getD}
 use Rattle.plane.specs.declared.cell.Cell.{Cell}
 use Rattle.dense.specs.declared.area.Area.{Area}
 use Rattle.canvas.specs.Board.{Board}

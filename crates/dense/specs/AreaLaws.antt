@@ -1,22 +1,21 @@
--- The laws of the board of an area.
-use mathlib.Core.Path.{_≡_, refl, sym, ap, _∙_, subst}
-use mathlib.Core.Bool.{Bool, true, false, cond, _&&_}
+-- The geometry of an area, and the laws of the board of its bytes. They stand here since the member `laws` of the trait holds their proof.
+use mathlib.Core.Path.{_≡_, sym, ap, _∙_, subst}
+use mathlib.Core.Bool.{true, false}
 use mathlib.Core.List.{List}
 use mathlib.Core.Logic.{_⊎_, inl, inr}
-use Prim.Native.Nat.{ℕ, _+_, _*_, _/_, _%_, _≤_, _<_}
+use Prim.Native.Nat.{ℕ, _+_, _*_, _/_, _%_, _<_}
 use native.Mathlib.Omega.{arith}
-use native.Mathlib.Nat.{mul-comm, mul-zero, zero-mul}
+use native.Mathlib.Nat.{mul-comm, zero-mul}
 use lib.IntN.{ℤ, pos, natAbs, _+ℤ_, _-ℤ_}
 use lib.Signed.{ltZ, leZ}
-use lib.ListN.{length, getD}
+use lib.ListN.{getD}
 use Rattle.std.proofs.shelf.Signed.{ints}
-use Rattle.std.proofs.shelf.Tests.{cond-true, cond-false, cases-bool, cases-lt, cases-eq, and-from, and-parts}
+use Rattle.std.proofs.shelf.Tests.{cond-true, cond-false, cases-bool, cases-eq, and-from, and-parts}
 use Rattle.std.proofs.shelf.Bits.{mul-add-lt, div-mul-add, mod-mul-add, div-below, mod-below, div-add-mod'}
 use Rattle.plane.specs.declared.cell.Cell.{Cell}
 use Rattle.dense.specs.declared.area.Area.{Area}
-use Rattle.canvas.specs.Board.{Board, BoardLaws}
-use Rattle.canvas.specs.Tally.{tally}
-use Rattle.canvas.proofs.Tables.{Tabled, tabled-laws}
+use Rattle.canvas.specs.Board.{BoardLaws}
+use Rattle.canvas.proofs.Tables.{tabled-laws}
 use Rattle.dense.specs.Area.{spans, covers, place, size, area-board, Inked, inked}
 
 -- one coordinate
@@ -38,9 +37,6 @@ spans-from c n k l = and-from _ _ low high
 
 pub offset-from : (c : ℤ) (k : ℕ) → natAbs ((c +ℤ pos k) -ℤ c) ≡ k
 offset-from c k = omega (arith, ints)
-
-pub cancel : (c : ℤ) (i j : ℕ) → c +ℤ pos i ≡ c +ℤ pos j → i ≡ j
-cancel c i j e = omega (arith, ints)
 
 module _ (a : Area) where
   -- the cell at a place

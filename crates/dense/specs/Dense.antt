@@ -1,5 +1,4 @@
 -- The board of a dense canvas, and its laws.
-use mathlib.Core.Path.{_≡_}
 use denote.Ref.{now}
 use Rattle.dense.specs.declared.dense.DenseCanvas.{DenseCanvas}
 use Rattle.canvas.specs.Board.{Board, BoardLaws}

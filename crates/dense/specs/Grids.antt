@@ -1,7 +1,7 @@
 -- The board of a grid, and what a grid keeps.
 use mathlib.Core.Path.{_≡_}
 use mathlib.Core.Bool.{cond}
-use Prim.Native.Nat.{ℕ, _≤_, _<_}
+use Prim.Native.Nat.{ℕ, _≤_}
 use lib.IntN.{ℤ, natAbs, _-ℤ_}
 use mathlib.Core.List.{List}
 use lib.ListN.{length, drop}

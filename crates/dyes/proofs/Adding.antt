@@ -1,6 +1,6 @@
 -- How a name is added by way of the shelf.
 use mathlib.Core.Path.{_≡_, refl, sym, ap, ap₂, _∙_, subst}
-use mathlib.Core.Bool.{Bool, true, false, cond, _&&_, _||_, not}
+use mathlib.Core.Bool.{Bool, true, false, cond, _&&_, not}
 use mathlib.Core.List.{List}
 use mathlib.Core.Logic.{_⊎_, inl, inr}
 use Prim.Native.Nat.{ℕ, _+_, _≤_, _<_, min}
@@ -28,7 +28,7 @@ use Rattle.dyes.specs.declared.record.DyeRecord.{DyeRecord}
 use Rattle.dyes.specs.declared.refusal.DyeRefused.{DyeRefused}
 use Rattle.dyes.specs.declared.refusal.DyeRefused.the-variants.{Full}
 use Rattle.dyes.specs.Refusals.{from-shelf}
-use Rattle.dyes.specs.Book.{Book, given, name-answer, goes-in, Gains, gains-if, After}
+use Rattle.dyes.specs.Book.{Book, given, name-answer, goes-in, gains-if, After}
 use Rattle.dyes.specs.Inks.{Numbered, Each}
 use Rattle.dyes.specs.Records.{dye-keys}
 use Rattle.dyes.specs.Shelves.{ink-in, records-book, shelf-book}

@@ -2,7 +2,7 @@
 use mathlib.Core.Path.{_≡_, refl, sym, ap, _∙_, subst}
 use mathlib.Core.Bool.{true, false}
 use mathlib.Core.List.{List}
-use Prim.Native.Nat.{ℕ, _≤_, _<_, min}
+use Prim.Native.Nat.{ℕ, _≤_, _<_}
 use native.Mathlib.Omega.{arith}
 use lib.ListN.{length}
 use Rattle.std.specs.Options.{isSome}
@@ -17,7 +17,7 @@ use Rattle.shelf.proofs.Moving.{held-most}
 use Rattle.shelf.proofs.Lookups.{found-is, all-found}
 use Rattle.dyes.specs.declared.name.DyeName.{DyeName}
 use Rattle.dyes.specs.declared.record.DyeRecord.{DyeRecord}
-use Rattle.dyes.specs.Book.{Book, BookLaws}
+use Rattle.dyes.specs.Book.{BookLaws}
 use Rattle.dyes.specs.Inks.{by-ink, among as among-test, apart as apart-test, Numbered, Each}
 use Rattle.dyes.specs.Records.{dye-keys}
 use Rattle.dyes.specs.Shelves.{ink-in, records-book, shelf-book}

@@ -1,6 +1,6 @@
 -- The inks of a list of dye records: what their tests say, and that they hold once a record with the next ink is stored.
 use mathlib.Core.Path.{_≡_, refl, sym, ap, _∙_, subst}
-use mathlib.Core.Bool.{Bool, true, false, cond, _&&_, not}
+use mathlib.Core.Bool.{Bool, true, false, cond, not}
 use mathlib.Core.List.{List, [], _∷_}
 use mathlib.Core.Logic.{_⊎_, inl, inr}
 use Prim.Native.Nat.{ℕ, _+_, _≤_, _<_}
@@ -13,7 +13,7 @@ use Rattle.std.specs.declared.option.Option.the-variants.{Some, None}
 use Rattle.std.specs.shelf.Lawful.{all-pass}
 use Rattle.std.specs.shelf.Lists.{All}
 use Rattle.std.proofs.shelf.Elements.{all-weaker}
-use Rattle.std.proofs.shelf.Tests.{and-parts, and-from, leb-true, le-leb, eqb-true, eq-eqb, ne-eqb, cases-eq, cases-lt, cond-true, cond-false, not-true, not-from-false, both-ways, false≢true, true≢false}
+use Rattle.std.proofs.shelf.Tests.{and-parts, and-from, leb-true, le-leb, eqb-true, eq-eqb, ne-eqb, cases-lt, cond-true, cond-false, not-true, not-from-false, both-ways, false≢true, true≢false}
 use Rattle.shelf.specs.Keys.{found, stored}
 use Rattle.shelf.proofs.Sizes.{all-stored, length-stored-unknown}
 use Rattle.dyes.specs.declared.record.DyeRecord.{DyeRecord}

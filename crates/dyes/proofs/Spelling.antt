@@ -8,16 +8,14 @@ use native.Mathlib.Omega.{arith}
 use borrow.Author.Needs.{needs}
 use lib.Dec.{leb, ltb}
 use lib.ListN.{length, getD, set, take, replicate}
-use Rattle.std.specs.declared.result.Result.{Result}
 use Rattle.std.specs.declared.result.Result.the-variants.{Ok, Err}
 use Rattle.std.specs.shelf.Lawful.{all-pass}
 use Rattle.std.specs.shelf.Lists.{All}
 use Rattle.std.proofs.shelf.Lists.{places, same-lists, getD-set-same, take-all}
 use Rattle.std.proofs.shelf.Tests.{cond-true, cond-false, cases-eq, and-parts, and-from, and-left, and-right, le-leb, lt-leb, leb-true, lt-ltb, le-ltb}
 use Rattle.dyes.specs.declared.name.DyeName.{DyeName}
-use Rattle.dyes.specs.declared.refusal.DyeRefused.{DyeRefused}
 use Rattle.dyes.specs.declared.refusal.DyeRefused.the-variants.{Malformed}
-use Rattle.dyes.specs.Names.{letter, well-formed, filled, spelled, lexical, TextsOrdered}
+use Rattle.dyes.specs.Names.{letter, well-formed, spelled, lexical, TextsOrdered}
 use Rattle.dyes.proofs.Lexical.{lexical-irreflexive}
 
 -- the first i bytes of a text, filled up
@@ -49,11 +47,6 @@ letters-fail p [] i a h = absurd (none i a)
     none i a = omega arith
 letters-fail p (x ∷ xs) zero a h = and-left _ _ h
 letters-fail p (x ∷ xs) (suc i) a h = and-right (p x) _ (letters-fail p xs i (omega arith) h)
-
--- the ways in which a text is refused, and the one in which it is a name
-pub refused-length : (text : List ℕ) → (length text < 1) ⊎ (8 < length text) → Err Malformed ≡ spelled text
-refused-length text (inl l) = sym (cond-false (well-formed text) _ _ (and-left _ _ (lt-leb 1 (length text) l)))
-refused-length text (inr l) = sym (cond-false (well-formed text) _ _ (and-right (leb 1 (length text)) _ (and-left _ _ (lt-leb (length text) 8 l))))
 
 pub refused-letter : (text : List ℕ) (i : ℕ) → i < length text → letter (getD text i 0) ≡ false → Err Malformed ≡ spelled text
 refused-letter text i a h = sym (cond-false (well-formed text) _ _ (and-right (leb 1 (length text)) _ (and-right (leb (length text) 8) _ (letters-fail letter text i a h))))

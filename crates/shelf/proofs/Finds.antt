@@ -1,13 +1,12 @@
 -- The record of a key is found, stored and taken at the rank of the key. Each step looks at how the first key compares: a is whether it is before the given one, b whether it is after.
-use mathlib.Core.Path.{_≡_, refl, sym, ap, _∙_, subst}
-use mathlib.Core.Bool.{Bool, true, false, cond, _&&_, not}
-use mathlib.Core.List.{List, [], _∷_, _++_}
-use Prim.Native.Nat.{ℕ, zero, suc, _+_, _≤_, _<_, zero-le, suc-le-suc}
+use mathlib.Core.Path.{_≡_, refl, sym, ap, _∙_}
+use mathlib.Core.Bool.{Bool, true, false, cond, not}
+use mathlib.Core.List.{List, [], _∷_}
+use Prim.Native.Nat.{ℕ, suc, _≤_, _<_, suc-le-suc}
 use native.Mathlib.Omega.{arith}
-use lib.ListN.{length, getD, set, take, drop}
+use lib.ListN.{length, getD, set}
 use Rattle.std.specs.Holes.{inserted, removed}
 use Rattle.std.specs.Options.{isSome}
-use Rattle.std.specs.declared.option.Option.{Option}
 use Rattle.std.specs.declared.option.Option.the-variants.{Some, None}
 use Rattle.std.proofs.shelf.Tests.{true≢false, false≢true, cond-true, cond-false}
 use Rattle.std.specs.declared.result.Result.the-variants.{Ok, Err}
@@ -37,13 +36,6 @@ module _ {R K : Type 0} (keys : Keys R K) where
       go true b more h = more h
       go false true more h = absurd (false≢true h)
       go false false more h = refl
-
-  pub found-unknown : (k : K) (xs : List R) → Unknown k xs → found keys k xs ≡ None
-  found-unknown k xs = go (found keys k xs)
-    where
-      go : (o : Option R) → isSome o ≡ false → o ≡ None
-      go (Some x) h = absurd (true≢false h)
-      go None h = refl
 
   pub stored-known : (r : R) (xs : List R) → Known (keys .key r) xs → stored keys r xs ≡ set xs (rank keys (keys .key r) xs) r
   stored-known r [] h = absurd (false≢true h)

@@ -1,11 +1,10 @@
 -- What the search found makes each way of an insertion and a removal end as promised. In what follows xs is the table, and its first n records are held.
 use mathlib.Core.Path.{_≡_, refl, sym, ap, _∙_, subst}
-use mathlib.Core.Bool.{Bool, true, false, cond, _||_}
+use mathlib.Core.Bool.{Bool, true, false, cond}
 use mathlib.Core.List.{List, _++_}
 use Prim.Native.Nat.{ℕ, _+_, _-_, _≤_, _<_}
 use native.Mathlib.Omega.{arith}
 use borrow.Author.Needs.{needs}
-use lib.Dec.{ltb}
 use lib.ListN.{length, getD, set, take, drop, length-set}
 use lib.Seq.{paste}
 use Rattle.std.specs.Holes.{inserted, removed}
@@ -13,12 +12,12 @@ use Rattle.std.specs.Options.{isSome}
 use Rattle.std.specs.declared.option.Option.the-variants.{Some}
 use Rattle.std.specs.declared.result.Result.{Result}
 use Rattle.std.specs.declared.result.Result.the-variants.{Ok, Err}
-use Rattle.std.proofs.shelf.Lists.{places, same-lists, take-at, drop-at, drop-set-lt, getD-set-same, getD-set-other, length-take-le, getD-take, getD-default}
+use Rattle.std.proofs.shelf.Lists.{places, same-lists, take-at, drop-at, drop-set-lt, getD-set-same, length-take-le, getD-take}
 use Rattle.std.proofs.shelf.Edits.{length-inserted, length-removed}
-use Rattle.std.proofs.shelf.Tests.{or-left, or-right, or-from, lt-ltb, le-ltb, cases-eq, true≢false}
-use Rattle.shelf.specs.Keys.{Keys, Sorted, rank, found, stored, taken, located}
-use Rattle.shelf.specs.Changes.{fits, Stored, Refused, Removed}
-use Rattle.shelf.proofs.Finds.{rank-known, found-known, stored-known, stored-unknown, taken-known}
+use Rattle.std.proofs.shelf.Tests.{or-left, or-right, or-from, lt-ltb, le-ltb, cases-eq}
+use Rattle.shelf.specs.Keys.{Keys, Sorted, rank, found, located}
+use Rattle.shelf.specs.Changes.{Stored, Refused, Removed}
+use Rattle.shelf.proofs.Finds.{found-known, stored-known, stored-unknown, taken-known}
 use Rattle.shelf.proofs.Shifts.{opened, closed}
 
 located-ok : (b : Bool) (at m : ℕ) → _≡_ {A = Result ℕ ℕ} (Ok at) (cond b (Ok m) (Err m)) → (b ≡ true) × (at ≡ m)

@@ -1,15 +1,14 @@
 -- What is held and what is free after a place of a table is written, opened or closed.
-use mathlib.Core.Path.{_≡_, refl, sym, ap, _∙_, subst}
-use mathlib.Core.List.{List, [], _∷_, _++_}
-use Prim.Native.Nat.{ℕ, suc, _+_, _-_, _≤_, _<_}
+use mathlib.Core.Path.{_≡_}
+use mathlib.Core.List.{List, _++_}
+use Prim.Native.Nat.{ℕ, _+_, _-_, _≤_, _<_}
 use native.Mathlib.Omega.{arith}
 use borrow.Author.Needs.{needs}
-use lib.ListN.{length, getD, set, take, drop}
+use lib.ListN.{length, set, take, drop}
 use lib.Seq.{paste}
 use Rattle.std.specs.Holes.{inserted, removed}
-use Rattle.std.proofs.shelf.Lists.{places, same-lists, getD-set-same, getD-set-other, take-at, drop-at, drop-set-lt, length-take-le}
+use Rattle.std.proofs.shelf.Lists.{places, same-lists, getD-set-same}
 use Rattle.std.proofs.shelf.Tests.{cases-eq}
-use Rattle.std.proofs.shelf.Edits.{length-inserted, length-removed}
 
 module _ {R : Type 0} (xs : List R) (n : ℕ) where
   pub opened : (at : ℕ) (r : R) → at ≤ n → n < length xs → set (paste xs (at + 1) (drop at xs) (n - at)) at r ≡ inserted (take n xs) at r ++ drop (n + 1) xs

@@ -1,9 +1,8 @@
 -- A sorted list stays sorted when a record is stored in it or taken from it.
-use mathlib.Core.Path.{_≡_, refl, sym, ap, _∙_, subst}
-use mathlib.Core.Bool.{Bool, true, false, cond, _&&_}
+use mathlib.Core.Path.{_≡_, refl, subst}
+use mathlib.Core.Bool.{Bool, true, false, cond}
 use mathlib.Core.List.{List, [], _∷_}
-use mathlib.Core.Logic.{_⊎_, inl, inr}
-use Rattle.std.proofs.shelf.Tests.{cond-true, cond-false, cases-bool, and-parts, and-from}
+use Rattle.std.proofs.shelf.Tests.{and-parts, and-from}
 use Rattle.shelf.specs.Keys.{Keys, TotalOrder, leads, sorted, Sorted, stored, taken}
 
 module _ {R K : Type 0} (keys : Keys R K) (o : TotalOrder keys) where

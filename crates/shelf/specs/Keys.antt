@@ -7,7 +7,7 @@
 --     taken     the list without the record of a key
 --     located   the place of the record of a key, or else the place that it would have
 use mathlib.Core.Path.{_≡_}
-use mathlib.Core.Bool.{Bool, true, false, cond, _&&_, not}
+use mathlib.Core.Bool.{Bool, true, false, cond, _&&_}
 use mathlib.Core.List.{List, [], _∷_}
 use Prim.Native.Nat.{ℕ, suc}
 use Rattle.std.specs.Options.{isSome}

@@ -2,10 +2,9 @@
 use mathlib.Core.Path.{_≡_, refl, sym, ap, ap₂, _∙_, subst}
 use mathlib.Core.Bool.{Bool, true, false, cond}
 use mathlib.Core.List.{List}
-use Prim.Native.Nat.{ℕ, _≤_, _<_}
+use Prim.Native.Nat.{ℕ, _≤_}
 use native.Mathlib.Omega.{arith}
-use lib.ListN.{length}
-use Rattle.std.specs.Results.{isErr, ErrBy}
+use Rattle.std.specs.Results.{ErrBy}
 use Rattle.std.specs.declared.option.Option.{Option}
 use Rattle.std.specs.declared.option.Option.the-variants.{Some, None}
 use Rattle.std.specs.declared.result.Result.{Result}
@@ -15,7 +14,7 @@ use Rattle.std.proofs.shelf.Tests.{cond-true, cond-false}
 use Rattle.plane.specs.declared.cell.Cell.{Cell}
 use Rattle.canvas.specs.declared.refusal.PutRefused.{PutRefused}
 use Rattle.canvas.specs.declared.refusal.PutRefused.the-variants.{Seats}
-use Rattle.canvas.specs.Board.{Board, put-answer, put-board, with-ink}
+use Rattle.canvas.specs.Board.{put-answer, put-board, with-ink}
 use Rattle.canvas.specs.Refusals.{from-shelf}
 use Rattle.canvas.proofs.Answering.{Takes, Refuses, takes-bare}
 use Rattle.canvas.proofs.Recorded.{Sound}

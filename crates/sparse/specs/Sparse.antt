@@ -1,7 +1,7 @@
 -- The board of a sparse canvas, and its laws.
-use Prim.Native.Nat.{ℕ, _≤_}
+use Prim.Native.Nat.{ℕ}
 use native.Mathlib.Omega.{arith}
-use lib.ListN.{length, length-take}
+use lib.ListN.{length-take}
 use Rattle.canvas.specs.Board.{Board, BoardLaws}
 use Rattle.canvas.proofs.Recorded.{record-laws}
 use Rattle.shelf.specs.Held.{table, held, size}

@@ -1,5 +1,5 @@
 use mathlib.Core.Bool.{true, false}
-use Prim.Native.Nat.{_+_, _-_, _/_, _<_, _≤_}
+use Prim.Native.Nat.{_+_, _-_, _/_, _<_}
 use native.Mathlib.Omega.{arith}
 use lib.ListN.{length}
 use Rattle.shelf.proofs.Ranks.{rank-most, rank-up-to, rank-beyond, read-test}

@@ -1,6 +1,5 @@
 use mathlib.Core.Path.{_≡_}
 use Prim.Native.Nat.{_*_}
-use native.Mathlib.Omega.{arith}
 use Rattle.dense.specs.Area.{size}
 use Rattle.dense.proofs.Wipes.{wiped, later-same}
 use Rattle.dense.proofs.grid.inks.clear.Needs as need

@@ -1,4 +1,4 @@
-use mathlib.Core.Path.{_≡_, sym, _∙_}
+use mathlib.Core.Path.{sym, _∙_}
 use Rattle.dense.proofs.Places.{index-lt}
 use Rattle.dense.proofs.grid.inks.look.Needs as need
 

@@ -1,11 +1,10 @@
-use mathlib.Core.Path.{_≡_, sym, _∙_}
+use mathlib.Core.Path.{sym, _∙_}
 use borrow.Author.Needs.{needs}
-use native.Mathlib.Omega.{arith}
 use Prim.Native.Nat.{_+_, _*_}
 use mir.Val.{SFits}
 use mir.Syntax.{w32, w64}
 use Rattle.std.proofs.shelf.Signed.{toZ-ofZ}
-use Rattle.dense.proofs.Places.{no-row, no-column, row-and-column}
+use Rattle.dense.proofs.Places.{no-row, row-and-column}
 use Rattle.dense.proofs.grid.inks.place.Needs as need
 
 pub returns-in-rest-offset : need.returns-in-rest-offset

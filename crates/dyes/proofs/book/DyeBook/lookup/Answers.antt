@@ -1,4 +1,4 @@
-use mathlib.Core.Path.{_≡_, sym, ap, _∙_}
+use mathlib.Core.Path.{sym, ap, _∙_}
 use Rattle.std.specs.declared.result.Result.{Result}
 use Rattle.dyes.specs.declared.name.DyeName.{DyeName}
 use Rattle.dyes.specs.declared.refusal.DyeRefused.{DyeRefused}

@@ -1,7 +1,6 @@
 use mathlib.Core.Bool.{true}
 use mathlib.Core.Path.{_≡_}
-use Prim.Native.Nat.{_≤_}
-use lib.ListN.{length, take}
+use lib.ListN.{take}
 use Rattle.std.specs.shelf.Lawful.{all-pass}
 use Rattle.dyes.specs.Names.{letter}
 use Rattle.dyes.proofs.Spelling.{so-far}

@@ -1,6 +1,4 @@
-use mathlib.Core.Path.{sym, _∙_}
 use lib.ListN.{length-take}
-use borrow.Author.Needs.{needs}
 use native.Mathlib.Omega.{arith}
 use Rattle.shelf.proofs.shelf.Shelf.len.Needs as need
 
