@@ -1,2 +1,9 @@
 pub mod Classes
 pub mod Grouped
+pub mod Counting
+pub mod Inks
+pub mod Entries
+pub mod Homes
+pub mod Onto
+pub mod Shown
+pub mod Counted
