@@ -7,3 +7,6 @@ pub mod Homes
 pub mod Onto
 pub mod Shown
 pub mod Counted
+pub mod Puts
+pub mod Keeping
+pub mod Lays
