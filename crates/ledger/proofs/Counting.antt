@@ -17,9 +17,9 @@ at-least Rel (h ∷ hs) ts d f alone =
     let t = first .0 in
     let rest : List Cell = without t ts (first .1) in
     let go : (k : Cell) → Member k hs → (s : Cell) × Member s rest × Rel k s = λ k m.
-          let g = f k (inr m) in
-          let apart : g .0 ≡ t → ⊥ = λ e. d .0 (subst (λ c. Member c hs) (alone k h t (inr m) (inl refl) (subst (Rel k) e (g .2)) (first .2)) m) in
-          (g .0, stays t ts (first .1) (g .0) apart (g .1), g .2) in
+    let g = f k (inr m) in
+    let apart : g .0 ≡ t → ⊥ = λ e. d .0 (subst (λ c. Member c hs) (alone k h t (inr m) (inl refl) (subst (Rel k) e (g .2)) (first .2)) m) in
+    (g .0, stays t ts (first .1) (g .0) apart (g .1), g .2) in
     let shorter : length hs ≤ length rest = at-least Rel hs rest (d .1) go (λ k j s mk mj rk rj. alone k j s (inr mk) (inr mj) rk rj) in
     omega (arith, length-without t ts (first .1))
 

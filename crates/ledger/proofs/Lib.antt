@@ -10,3 +10,10 @@ pub mod Counted
 pub mod Puts
 pub mod Keeping
 pub mod Lays
+pub mod Strokes
+pub mod Rectangles
+pub mod Sights
+pub mod Twins
+pub mod TwinStops
+pub mod TwinStrokes
+pub mod TwinSights

@@ -3,11 +3,13 @@
 --     latest      the newest entry whose cell has a property
 --     untouched   no entry's cell has the property
 use mathlib.Core.Path.{_≡_}
+use mathlib.Core.Bool.{Bool}
 use mathlib.Core.List.{List, [], _∷_}
 use mathlib.Core.Logic.{_⊎_}
 use Prim.Native.Nat.{_<_}
 use Rattle.plane.specs.declared.cell.Cell.{Cell}
 use Rattle.sheet.specs.declared.mark.Mark.{Mark}
+use Rattle.sheet.specs.Tints.{tinted}
 
 pub record Entry : Type 0 where
   pub cell : Cell
@@ -27,3 +29,7 @@ Untouched R (e ∷ L) = (R (e .cell) → ⊥) × Untouched R L
 -- a mark that is not bare: its ink is not 0
 abbrev pub Colours : Mark → Type 0
 Colours mark = 0 < mark .ink
+
+-- a mark as an operation carries it: with the counterpart ink if the operation is odd
+abbrev pub tinted-mark : Bool → Mark → Mark
+tinted-mark odd mark = record { ink = tinted odd (mark .ink) }
