@@ -1,10 +1,9 @@
 -- What laying cells answers, and the board it leaves.
 --     mark    what a stroke lays at each of its cells: an ink
 --     laid    cells are laid in order until one stops; those before it remain
-use mathlib.Core.Bool.{Bool, true, false, cond, _&&_, not}
+use mathlib.Core.Bool.{Bool, cond}
 use mathlib.Core.List.{List, [], _∷_}
 use Prim.Native.Nat.{ℕ, suc}
-use lib.Dec.{eqb}
 use Rattle.std.specs.declared.option.Option.{Option}
 use Rattle.std.specs.declared.option.Option.the-variants.{Some, None}
 use Rattle.std.specs.declared.result.Result.{Result}
@@ -12,20 +11,21 @@ use Rattle.std.specs.declared.result.Result.the-variants.{Ok, Err}
 use Rattle.plane.specs.declared.cell.Cell.{Cell}
 use Rattle.plane.specs.Meaning.{Meaning}
 use Rattle.canvas.specs.declared.refusal.PutRefused.{PutRefused}
-use Rattle.canvas.specs.Inks.{counterpart}
 use Rattle.canvas.specs.Board.{Board, put-refusal, put-board}
 use Rattle.sheet.specs.declared.mark.Mark.{Mark}
 use Rattle.sheet.specs.declared.refusal.LayRefused.{LayRefused}
 use Rattle.sheet.specs.declared.refusal.LayRefused.the-variants.{Clash, Canvas}
-use Rattle.sheet.specs.Tints.{all-odd, neutral, tinted}
+use Rattle.sheet.specs.Tints.{all-odd, clash, tinted}
+
+abbrev pub marked : ℕ → Mark
+marked ink = record { ink = ink }
 
 -- the ink that the home of a cell gets
 abbrev pub home-ink : Meaning → Cell → Mark → ℕ
 home-ink m p mark = tinted (all-odd (m .kinds p)) (mark .ink)
 
--- the cell is neutral and the ink is not its own counterpart
 abbrev pub clashes : Meaning → Cell → Mark → Bool
-clashes m p mark = neutral (m .kinds p) && not (eqb (counterpart (mark .ink)) (mark .ink))
+clashes m p mark = clash (m .kinds p) (mark .ink)
 
 abbrev pub by-canvas : Option PutRefused → Option LayRefused
 by-canvas (Some why) = Some (Canvas why)

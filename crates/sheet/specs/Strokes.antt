@@ -75,10 +75,16 @@ dotted m strokes b at mark = stroked m strokes b mark at at (at ∷ [])
 abbrev pub lined : Meaning → ℕ → Board → Cell → Cell → Mark → Stroked
 lined m strokes b from to mark = stroked m strokes b mark from to (line-cells from to)
 
-abbrev pub told : Option StrokeRefused → ℕ → Result ℕ StrokeStopped
-told (Some why) laid = Err (record { refusal = why; laid = laid })
-told None laid = Ok laid
+-- a refusal, if there is one, as a result
+abbrev pub verdict : Option StrokeRefused → Result (Unit {0}) StrokeRefused
+verdict (Some why) = Err why
+verdict None = Ok tt
+
+-- a result with the number of cells that were laid
+abbrev pub told : Result (Unit {0}) StrokeRefused → ℕ → Result ℕ StrokeStopped
+told (Ok done) laid = Ok laid
+told (Err why) laid = Err (record { refusal = why; laid = laid })
 
 -- what a stroke answers
 abbrev pub stroke-answer : Stroked → Result ℕ StrokeStopped
-stroke-answer s = told (s .refusal) (s .laid)
+stroke-answer s = told (verdict (s .refusal)) (s .laid)

@@ -3,6 +3,7 @@
 --     neutral   operations of both parities carry the cell home: it can only have an ink that is its own counterpart
 use mathlib.Core.Bool.{Bool, true, false, _&&_, _||_, not}
 use Prim.Native.Nat.{ℕ}
+use lib.Dec.{eqb}
 use Rattle.plane.specs.declared.kinds.Kinds.{Kinds}
 use Rattle.canvas.specs.Inks.{counterpart}
 
@@ -22,3 +23,7 @@ neutral k = any-even k && any-odd k
 abbrev pub tinted : Bool → ℕ → ℕ
 tinted true ink = counterpart ink
 tinted false ink = ink
+
+-- an ink that a cell of these kinds cannot have: the cell is neutral and the ink is not its own counterpart
+abbrev pub clash : Kinds → ℕ → Bool
+clash k ink = neutral k && not (eqb (counterpart ink) ink)

@@ -1,10 +1,13 @@
 // Why a sheet's call is refused.
 ghost use mathlib.Core.Path.{_≡_};
+ghost use Rattle.sheet.specs.declared.refusal.LayRefused.the-variants.{Canvas};
+ghost use Rattle.sheet.specs.declared.refusal.StrokeRefused.the-variants.{Stopped, TooLong};
 ghost use Rattle.sheet.specs.Refusals.{lay-number, stroke-number, window-number};
 use canvas::refusal::PutRefused;
 use canvas::refusal::PutRefusedDebug;
 use canvas::refusal::PutRefusedEq;
 use canvas::refusal::PutRefusedPartialEq;
+use lines::refusal::LineRefused;
 
 // Why a cell is not laid.
 #[derive(Clone, Copy, PartialEq, Eq, Debug)]
@@ -48,6 +51,35 @@ pub enum WindowRefused {
     Palette,
     // The output is too short.
     Output,
+}
+
+// A canvas's refusal stops the laying.
+pub impl From<PutRefused> for LayRefused as LayFromPut {
+    ghost converts = { λ why r. r ≡ Canvas why };
+
+    fn from(value: PutRefused) -> LayRefused {
+        LayRefused::Canvas(value)
+    }
+}
+
+// A cell that is not laid stops the stroke.
+pub impl From<LayRefused> for StrokeRefused as StrokeFromLay {
+    ghost converts = { λ why r. r ≡ Stopped why };
+
+    fn from(value: LayRefused) -> StrokeRefused {
+        StrokeRefused::Stopped(value)
+    }
+}
+
+// A line that is too long is a stroke that is.
+pub impl From<LineRefused> for StrokeRefused as StrokeFromLine {
+    ghost converts = { λ _ r. r ≡ TooLong };
+
+    fn from(value: LineRefused) -> StrokeRefused {
+        match value {
+            LineRefused::TooLong => StrokeRefused::TooLong,
+        }
+    }
 }
 
 impl LayRefused {

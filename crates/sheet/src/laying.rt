@@ -1,0 +1,56 @@
+// Laying cells.
+ghost use mathlib.Core.Path.{_≡_};
+ghost use Rattle.plane.specs.Cells.{Within};
+ghost use Rattle.lines.specs.Lines.{AllWithin, line-cells};
+ghost use Rattle.sheet.specs.Laying.{lay-all, lay-answer, lay-board, lay-refusal};
+use super::mark::Mark;
+use super::refusal::LayFromPut;
+use super::refusal::LayRefused;
+use super::tints::clash;
+use super::tints::tint;
+use canvas::canvas::Canvas;
+use lines::line::Line;
+use plane::cell::Cell;
+use plane::symmetry::Symmetry;
+
+// Lays a cell within the span.
+pub(crate) fn lay<S: Symmetry, C: Canvas>(
+    symmetry: &S,
+    canvas: &mut C,
+    at: Cell,
+    mark: Mark,
+) -> Result<(), LayRefused>
+    requires { ⌜ Within (S·Symmetry .meaning (now symmetry) .span) at ⌝ }
+    ensures answer { λ r. ⌜ r ≡ lay-answer (lay-refusal (S·Symmetry .meaning (now (symmetry .entry))) (C·Canvas .board (now (canvas .entry))) at mark) ⌝ }
+    ensures after { λ _. ⌜ C·Canvas .board (now (canvas .exit)) ≡ lay-board (S·Symmetry .meaning (now (symmetry .entry))) (C·Canvas .board (now (canvas .entry))) at mark ⌝ }
+{
+    let Ok(found) = symmetry.fold(at) else {
+        unreachable()
+    };
+    if clash(found.kinds, mark.ink) {
+        return Err(LayRefused::Clash);
+    }
+    canvas.put(found.home, tint(found.kinds, mark.ink))?;
+    Ok(())
+}
+
+// Lays the cells of a line within the span, in order until one stops, and counts those that it laid.
+pub(crate) fn lay_line<S: Symmetry, C: Canvas>(
+    symmetry: &S,
+    canvas: &mut C,
+    line: &Line,
+    mark: Mark,
+    laid: &mut u16,
+) -> Result<(), LayRefused>
+    requires within { ⌜ AllWithin (S·Symmetry .meaning (now symmetry) .span) (line-cells (now line .from) (now line .to)) ⌝ }
+    requires none { ⌜ now laid ≡ 0 ⌝ }
+    ensures answer { λ r. ⌜ r ≡ lay-answer (lay-all (S·Symmetry .meaning (now (symmetry .entry))) (C·Canvas .board (now (canvas .entry))) mark (line-cells (now (line .entry) .from) (now (line .entry) .to)) .stop) ⌝ }
+    ensures count { λ _. ⌜ now (laid .exit) ≡ lay-all (S·Symmetry .meaning (now (symmetry .entry))) (C·Canvas .board (now (canvas .entry))) mark (line-cells (now (line .entry) .from) (now (line .entry) .to)) .count ⌝ }
+    ensures after { λ _. ⌜ C·Canvas .board (now (canvas .exit)) ≡ lay-all (S·Symmetry .meaning (now (symmetry .entry))) (C·Canvas .board (now (canvas .entry))) mark (line-cells (now (line .entry) .from) (now (line .entry) .to)) .board ⌝ }
+{
+    for i in 0..line.cells() {
+        lay(symmetry, canvas, line.cell(i), mark)?;
+        *laid += 1;
+    }
+    Ok(())
+}
