@@ -18,12 +18,13 @@ use Rattle.canvas.specs.Inks.{top-ink}
 use Rattle.canvas.specs.Board.{Board}
 use Rattle.lines.specs.Lines.{AllWithin, top-length}
 use Rattle.sheet.specs.declared.mark.Mark.{Mark}
+use Rattle.sheet.specs.declared.refusal.LayRefused.{LayRefused}
 use Rattle.sheet.specs.declared.refusal.StrokeRefused.{StrokeRefused}
 use Rattle.sheet.specs.declared.refusal.StrokeRefused.the-variants.{TooManyStrokes, Ink, OffSpan, TooLong, Stopped}
 use Rattle.sheet.specs.Laying.{lay-all, Laid}
-use Rattle.sheet.specs.Strokes.{top-strokes, stroke-refusal, or-else, strokes-after, attempt, stroked, stroke-answer, Stroked}
+use Rattle.sheet.specs.Strokes.{top-strokes, stroke-refusal, or-else, strokes-after, by-laying, verdict, told, attempt, stroked, stroke-answer, Stroked}
 use Rattle.ledger.specs.Feeding.{Setting, setting}
-use Rattle.ledger.specs.Striking.{Page, Ends, Bars, Strikes}
+use Rattle.ledger.specs.Striking.{Page, Ends, Bars, answered, Strikes}
 use Rattle.ledger.proofs.Classes.{Classes}
 use Rattle.ledger.proofs.Keeping.{Keeps}
 use Rattle.ledger.proofs.Lays.{stringing}
@@ -75,6 +76,11 @@ module _ (m : Meaning) (frame : Cell → Bool) (strokes : ℕ) (mark : Mark) (fr
           clear TooLong h = apart top-length (length cells) (h .3) short
           clear (Stopped why) h = h
 
+-- the answer once cells are laid
+answers : (stop : Option LayRefused) (n : ℕ) → told (verdict (by-laying stop)) n ≡ answered stop n
+answers (Some why) n = refl
+answers None n = refl
+
 -- what came of a stroke from page A
 pub record Struck (m : Meaning) (frame : Cell → Bool) (mark : Mark) (from to : Cell) (cells : List Cell) (A : Page) (o : Stroked) : Type 0 where
   pub after : Page
@@ -94,7 +100,7 @@ striking m frame cl mark from to cells A b between keeps =
         let w = stringing m frame cl (A .seats) mark (h .1) cells (A .ledger) b (between (h .2)) keeps in
         record {
           after = record { ledger = w .ledger; strokes = strokes-after (A .strokes) (o .count); seats = A .seats };
-          strikes = inr (h .0, (o .count, o .stop, record { adds = w .adds; count = w .count; strokes = refl; seats = refl }, refl));
+          strikes = inr (h .0, (o .count, o .stop, record { adds = w .adds; count = w .count; strokes = refl; seats = refl }, answers (o .stop) (o .count)));
           keeps = w .keeps;
           strokes = refl;
         }

@@ -9,6 +9,7 @@ use lib.ListN.{length}
 use Rattle.std.specs.declared.option.Option.{Option}
 use Rattle.std.specs.declared.option.Option.the-variants.{Some, None}
 use Rattle.std.specs.declared.result.Result.{Result}
+use Rattle.std.specs.declared.result.Result.the-variants.{Err}
 use Rattle.plane.specs.declared.cell.Cell.{Cell}
 use Rattle.plane.specs.Meaning.{Meaning}
 use Rattle.canvas.specs.Inks.{top-ink}
@@ -18,10 +19,10 @@ use Rattle.sheet.specs.declared.refusal.LayRefused.{LayRefused}
 use Rattle.sheet.specs.declared.refusal.StrokeRefused.{StrokeRefused}
 use Rattle.sheet.specs.declared.refusal.StrokeRefused.the-variants.{TooManyStrokes, Ink, OffSpan, TooLong, Stopped}
 use Rattle.sheet.specs.declared.refusal.StrokeStopped.{StrokeStopped}
-use Rattle.sheet.specs.Strokes.{top-strokes, stroke-refusal, strokes-after, by-laying, told}
+use Rattle.sheet.specs.Strokes.{top-strokes, stroke-refusal, strokes-after}
 use Rattle.ledger.specs.Ledgers.{Ledger, tinted-mark}
 use Rattle.ledger.specs.Feeding.{Setting, setting, Adds}
-use Rattle.ledger.specs.Striking.{Page, Ends, Bars, Lays, Strikes}
+use Rattle.ledger.specs.Striking.{Page, Ends, Bars, Lays, answered, Strikes}
 use Rattle.ledger.proofs.Inks.{tinted-small, tinted-large}
 use Rattle.ledger.proofs.Classes.{Classes}
 use Rattle.ledger.proofs.Strokes.{Barred, barring}
@@ -78,12 +79,12 @@ module _ (m : Meaning) (frame : Cell → Bool) (cl : Classes m) where
   BarsToo i p e ps j q f qs = (n : ℕ) (why : StrokeRefused) → Bars here n i p e ps why → Bars here n j q f qs why
 
   -- cells laid from twin pages
-  lays-twin : (a : Bool) (i j : Mark) (ps qs : List Cell) → Rows m frame cl a i j ps qs → (A A′ B B′ : Page) (x y : ℕ) (o u : Option LayRefused) → Pages m A A′ → Lays here i ps A B x o → Lays here j qs A′ B′ y u → Pages m B B′ × (told (by-laying o) x ≡ told (by-laying u) y)
+  lays-twin : (a : Bool) (i j : Mark) (ps qs : List Cell) → Rows m frame cl a i j ps qs → (A A′ B B′ : Page) (x y : ℕ) (o u : Option LayRefused) → Pages m A A′ → Lays here i ps A B x o → Lays here j qs A′ B′ y u → Pages m B B′ × (answered o x ≡ answered u y)
   lays-twin a i j ps qs rows A A′ B B′ x y o u e h k =
       let k′ : Adds here (A .seats) j qs (A′ .ledger) (B′ .ledger) u = subst (λ n. Adds here n j qs (A′ .ledger) (B′ .ledger) u) (sym (e .seats)) (k .adds) in
       let t = adds-twin m frame cl (A .seats) a i j ps qs rows (A .ledger) (A′ .ledger) (B .ledger) (B′ .ledger) o u (e .ledgers) (h .adds) k′ in
       let same : x ≡ y = level (length (A .ledger)) (length (A′ .ledger)) (length (B .ledger)) (length (B′ .ledger)) x y (as-long m (A .ledger) (A′ .ledger) (e .ledgers)) (as-long m (B .ledger) (B′ .ledger) (t .0)) (h .count) (k .count) in
-      (record { ledgers = t .0; strokes = h .strokes ∙ ap₂ strokes-after (e .strokes) same ∙ sym (k .strokes); seats = h .seats ∙ e .seats ∙ sym (k .seats) }, ap₂ (λ (z : Option LayRefused) (n : ℕ). told (by-laying z) n) (t .1) same)
+      (record { ledgers = t .0; strokes = h .strokes ∙ ap₂ strokes-after (e .strokes) same ∙ sym (k .strokes); seats = h .seats ∙ e .seats ∙ sym (k .seats) }, ap₂ answered (t .1) same)
     where
       level : (x x′ y y′ m n : ℕ) → x ≡ x′ → y ≡ y′ → y ≡ x + m → y′ ≡ x′ + n → m ≡ n
       level x x′ y y′ m n a b c d = omega arith
@@ -92,7 +93,7 @@ module _ (m : Meaning) (frame : Cell → Bool) (cl : Classes m) where
   strikes-twin : (a : Bool) (p e q f : Cell) (ps qs : List Cell) (i j : Mark) (A A′ B B′ : Page) (x y : Result ℕ StrokeStopped) → BarsToo i p e ps j q f qs → BarsToo j q f qs i p e ps → (Ends here p e → Rows m frame cl a i j ps qs) → Pages m A A′ → Strikes here p e ps i A x B → Strikes here q f qs j A′ y B′ → Pages m B B′ × (x ≡ y)
   strikes-twin a p e q f ps qs i j A A′ B B′ x y forth back rows same (inl h) (inl k) =
       let r : h .0 ≡ k .0 = bars-one here (A′ .strokes) j q f qs (h .0) (k .0) (forth (A′ .strokes) (h .0) (subst (λ n. Bars here n i p e ps (h .0)) (same .strokes) (h .1))) (k .1) in
-      (subst₂ (Pages m) (sym (h .2)) (sym (k .2)) same, h .3 ∙ ap (λ (z : StrokeRefused). told (Some z) 0) r ∙ sym (k .3))
+      (subst₂ (Pages m) (sym (h .2)) (sym (k .2)) same, h .3 ∙ ap (λ (z : StrokeRefused). Err (record { refusal = z; laid = 0 })) r ∙ sym (k .3))
   strikes-twin a p e q f ps qs i j A A′ B B′ x y forth back rows same (inl h) (inr k) =
       absurd (k .0 (h .0) (forth (A′ .strokes) (h .0) (subst (λ n. Bars here n i p e ps (h .0)) (same .strokes) (h .1))))
   strikes-twin a p e q f ps qs i j A A′ B B′ x y forth back rows same (inr h) (inl k) =

@@ -7,8 +7,9 @@ use mathlib.Core.Logic.{_⊎_}
 use Prim.Native.Nat.{ℕ, _+_, _≤_, _<_}
 use lib.ListN.{length}
 use Rattle.std.specs.declared.option.Option.{Option}
-use Rattle.std.specs.declared.option.Option.the-variants.{Some}
+use Rattle.std.specs.declared.option.Option.the-variants.{Some, None}
 use Rattle.std.specs.declared.result.Result.{Result}
+use Rattle.std.specs.declared.result.Result.the-variants.{Ok, Err}
 use Rattle.plane.specs.declared.cell.Cell.{Cell}
 use Rattle.plane.specs.Cells.{Within}
 use Rattle.canvas.specs.Inks.{top-ink}
@@ -18,7 +19,7 @@ use Rattle.sheet.specs.declared.refusal.LayRefused.{LayRefused}
 use Rattle.sheet.specs.declared.refusal.StrokeRefused.{StrokeRefused}
 use Rattle.sheet.specs.declared.refusal.StrokeRefused.the-variants.{TooManyStrokes, Ink, OffSpan, TooLong, Stopped}
 use Rattle.sheet.specs.declared.refusal.StrokeStopped.{StrokeStopped}
-use Rattle.sheet.specs.Strokes.{top-strokes, strokes-after, by-laying, told}
+use Rattle.sheet.specs.Strokes.{top-strokes, strokes-after}
 use Rattle.ledger.specs.Ledgers.{Ledger}
 use Rattle.ledger.specs.Feeding.{Setting, Adds}
 
@@ -50,8 +51,13 @@ pub record Lays (s : Setting) (mark : Mark) (cells : List Cell) (A B : Page) (la
   pub strokes : B .strokes ≡ strokes-after (A .strokes) laid
   pub seats : B .seats ≡ A .seats
 
+-- what is answered once so many cells are laid
+abbrev pub answered : Option LayRefused → ℕ → Result ℕ StrokeStopped
+answered None laid = Ok laid
+answered (Some why) laid = Err (record { refusal = Stopped why; laid = laid })
+
 -- a stroke from page A to page B: refused before any cell, or its cells are laid until one stops
 abbrev pub Strikes : Setting → Cell → Cell → List Cell → Mark → Page → Result ℕ StrokeStopped → Page → Type 0
 Strikes s from to cells mark A answer B =
-    ((why : StrokeRefused) × Bars s (A .strokes) mark from to cells why × (B ≡ A) × (answer ≡ told (Some why) 0))
-    ⊎ (((why : StrokeRefused) → Bars s (A .strokes) mark from to cells why → ⊥) × ((laid : ℕ) × (stop : Option LayRefused) × Lays s mark cells A B laid stop × (answer ≡ told (by-laying stop) laid)))
+    ((why : StrokeRefused) × Bars s (A .strokes) mark from to cells why × (B ≡ A) × (answer ≡ Err (record { refusal = why; laid = 0 })))
+    ⊎ (((why : StrokeRefused) → Bars s (A .strokes) mark from to cells why → ⊥) × ((laid : ℕ) × (stop : Option LayRefused) × Lays s mark cells A B laid stop × (answer ≡ answered stop laid)))

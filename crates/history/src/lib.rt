@@ -1,0 +1,2 @@
+// Histories of a sheet as data, and what comes of replaying one.
+pub mod calls;
