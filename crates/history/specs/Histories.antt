@@ -14,7 +14,7 @@ use Rattle.plane.specs.declared.fold.FoldRefused.{FoldRefused}
 use Rattle.plane.specs.Cells.{Within}
 use Rattle.lines.specs.Lines.{line-cells}
 use Rattle.sheet.specs.declared.refusal.StrokeStopped.{StrokeStopped}
-use Rattle.sheet.specs.declared.refusal.WindowRefused.{WindowRefused}
+use Rattle.views.specs.declared.refusal.WindowRefused.{WindowRefused}
 use Rattle.sheet.specs.declared.sheet.Quote.{Quote}
 use Rattle.sheet.specs.Laying.{marked}
 use Rattle.ledger.specs.Ledgers.{Ledger}

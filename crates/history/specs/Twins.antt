@@ -9,7 +9,7 @@ use Rattle.std.specs.declared.option.Option.the-variants.{Some, None}
 use Rattle.plane.specs.declared.cell.Cell.{Cell}
 use Rattle.plane.specs.Cells.{Within}
 use Rattle.plane.specs.Operation.{Operation, carry}
-use Rattle.sheet.specs.Tints.{tinted}
+use Rattle.views.specs.Tints.{tinted}
 use Rattle.ledger.specs.Feeding.{Setting}
 use Rattle.history.specs.declared.calls.Drawing.{Drawing}
 use Rattle.history.specs.declared.calls.Drawing.the-variants.{Dot, Line, Look as Looks}

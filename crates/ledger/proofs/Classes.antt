@@ -6,7 +6,7 @@ use Rattle.plane.specs.Cells.{Within}
 use Rattle.plane.specs.Operation.{Operation, carry, xor}
 use Rattle.plane.specs.Meaning.{Meaning}
 use Rattle.plane.specs.Laws.{Carried, Neutral}
-use Rattle.sheet.specs.Tints.{all-odd, neutral}
+use Rattle.views.specs.Tints.{all-odd, neutral}
 
 -- an operation of this parity carries p onto q
 abbrev pub Goes : (Operation → Type 0) → Bool → Cell → Cell → Type 0

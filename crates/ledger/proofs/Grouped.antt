@@ -10,7 +10,7 @@ use Rattle.plane.specs.Kinds.{has}
 use Rattle.plane.specs.Meaning.{Meaning}
 use Rattle.plane.specs.Laws.{Carried, CarriedAs, Neutral, Group, Lawful}
 use Rattle.plane.proofs.Algebra.{carry-compose, carry-identity}
-use Rattle.sheet.specs.Tints.{all-odd, neutral, any-even, any-odd}
+use Rattle.views.specs.Tints.{all-odd, neutral, any-even, any-odd}
 use Rattle.ledger.proofs.Classes.{Goes, flips, Classes}
 
 xor-comm : (a b : Bool) → xor a b ≡ xor b a

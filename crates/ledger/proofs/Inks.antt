@@ -6,7 +6,7 @@ use native.Mathlib.Omega.{arith}
 use Rattle.std.proofs.shelf.Ways.{tells}
 use Rattle.plane.specs.Operation.{xor}
 use Rattle.canvas.specs.Inks.{counterpart, top-ink}
-use Rattle.sheet.specs.Tints.{tinted}
+use Rattle.views.specs.Tints.{tinted}
 
 pub counterpart-counterpart : (n : ℕ) → counterpart (counterpart n) ≡ n
 counterpart-counterpart n = grind (arith, tells)

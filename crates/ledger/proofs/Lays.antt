@@ -11,7 +11,7 @@ use Rattle.std.proofs.shelf.Tests.{cases-lt, cases-bool, cases-eq, eq-eqb, ne-e
 use Rattle.std.specs.declared.option.Option.{Option}
 use Rattle.std.specs.declared.option.Option.the-variants.{Some, None}
 use Rattle.plane.specs.declared.cell.Cell.{Cell}
-use Rattle.plane.specs.Cells.{Within, same}
+use Rattle.plane.specs.Cells.{AllWithin, Within, same}
 use Rattle.plane.specs.Meaning.{Meaning}
 use Rattle.plane.specs.Laws.{Neutral}
 use Rattle.canvas.specs.declared.refusal.PutRefused.{PutRefused}
@@ -19,11 +19,10 @@ use Rattle.canvas.specs.declared.refusal.PutRefused.the-variants.{Ink, Frame, S
 use Rattle.canvas.specs.Inks.{counterpart, top-ink}
 use Rattle.canvas.specs.Board.{Board, put-refusal, put-board, with-ink, unless}
 use Rattle.canvas.proofs.Boards.{put-laws}
-use Rattle.lines.specs.Lines.{AllWithin}
 use Rattle.sheet.specs.declared.mark.Mark.{Mark}
 use Rattle.sheet.specs.declared.refusal.LayRefused.{LayRefused}
 use Rattle.sheet.specs.declared.refusal.LayRefused.the-variants.{Clash, Canvas}
-use Rattle.sheet.specs.Tints.{neutral}
+use Rattle.views.specs.Tints.{neutral}
 use Rattle.sheet.specs.Laying.{home-ink, clashes, by-canvas, lay-refusal, lay-board, lay-all, lay-next, Laid}
 use Rattle.ledger.specs.Ledgers.{Entry, Ledger, Colours}
 use Rattle.ledger.specs.Feeding.{Setting, setting, Taken, Clashes, Stops, Adds}

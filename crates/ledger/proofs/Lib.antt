@@ -11,7 +11,6 @@ pub mod Puts
 pub mod Keeping
 pub mod Lays
 pub mod Strokes
-pub mod Rectangles
 pub mod Sights
 pub mod Twins
 pub mod TwinStops

@@ -9,7 +9,7 @@ use Rattle.plane.specs.Operation.{Operation, xor}
 use Rattle.plane.specs.Meaning.{Meaning}
 use Rattle.plane.specs.Laws.{Carried, Neutral}
 use Rattle.canvas.specs.Inks.{counterpart}
-use Rattle.sheet.specs.Tints.{tinted}
+use Rattle.views.specs.Tints.{tinted}
 use Rattle.ledger.proofs.Inks.{tinted-own}
 use Rattle.ledger.proofs.Classes.{Goes, flips, Classes}
 

@@ -7,7 +7,7 @@ use Rattle.plane.specs.Cells.{Within}
 use Rattle.plane.specs.Operation.{xor}
 use Rattle.plane.specs.Meaning.{Meaning}
 use Rattle.plane.specs.Laws.{Carried}
-use Rattle.sheet.specs.Tints.{tinted}
+use Rattle.views.specs.Tints.{tinted}
 use Rattle.ledger.specs.Ledgers.{Entry, Ledger}
 use Rattle.ledger.specs.Planes.{Shows}
 use Rattle.ledger.proofs.Inks.{tinted-bare, tinted-tinted}

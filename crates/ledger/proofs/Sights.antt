@@ -15,22 +15,22 @@ use Rattle.std.specs.declared.option.Option.{Option}
 use Rattle.std.specs.declared.option.Option.the-variants.{Some, None}
 use Rattle.std.specs.declared.result.Result.the-variants.{Ok, Err}
 use Rattle.plane.specs.declared.cell.Cell.{Cell}
-use Rattle.plane.specs.Cells.{Within, inside}
+use Rattle.plane.specs.Cells.{AllWithin, Within, all-inside, inside}
 use Rattle.plane.specs.Meaning.{Meaning}
 use Rattle.plane.proofs.Folding.{inside-within, outside}
 use Rattle.canvas.specs.Board.{Board}
-use Rattle.lines.specs.Lines.{AllWithin}
-use Rattle.sheet.specs.declared.refusal.WindowRefused.{WindowRefused}
-use Rattle.sheet.specs.declared.refusal.WindowRefused.the-variants.{Side, OffSpan, Palette, Output}
-use Rattle.sheet.specs.Shows.{shown, shown-if, shown-ink}
-use Rattle.sheet.specs.Windows.{window-cells, header, colour, pixels, picture-size, wrong-side, within-span, window-refusal, windowed, window-answer, written-over, unless-refused, window-output}
+use Rattle.views.specs.declared.refusal.WindowRefused.{WindowRefused}
+use Rattle.views.specs.declared.refusal.WindowRefused.the-variants.{Side, OffSpan, Palette, Output}
+use Rattle.views.specs.Shows.{shown, shown-if, shown-ink}
+use Rattle.views.specs.Windows.{window-cells, header, colour, pixels, picture-size, wrong-side, window-refusal, windowed, window-answer, written-over, unless-refused, window-output}
+use Rattle.views.proofs.Cells.{all-within, within-all}
+use Rattle.views.proofs.Pixels.{picture-length}
 use Rattle.ledger.specs.Ledgers.{Ledger}
 use Rattle.ledger.specs.Feeding.{Setting, setting}
 use Rattle.ledger.specs.Looking.{ShowsAt, Pixels, Sized, BothSized, Spanned, Denies, Paints}
 use Rattle.ledger.proofs.Classes.{Classes}
 use Rattle.ledger.proofs.Homes.{Follows}
 use Rattle.ledger.proofs.Shown.{shows}
-use Rattle.ledger.proofs.Rectangles.{window-length, window-within, within-window}
 
 not-below : (a b : ℤ) → ltZ a b ≡ false → b ≤ℤ a
 not-below a b e = grind (arith, ints)
@@ -43,9 +43,6 @@ side-sized z e = let t = or-parts (ltZ z (pos 1)) (ltZ (pos 128) z) e in (not-be
 
 sized-side : (z : ℤ) → Sized z → wrong-side z ≡ false
 sized-side z s = or-from (ltZ z (pos 1)) (ltZ (pos 128) z) (below-not z (pos 1) (s .0)) (below-not (pos 128) z (s .1))
-
-sized-some : (z : ℤ) → Sized z → 1 ≤ natAbs z
-sized-some z s = let h = s .0 in omega (arith, ints)
 
 -- ---- why a window is refused
 module _ (m : Meaning) (frame : Cell → Bool) (corner : Cell) (width height : ℤ) (palette output : ℕ) where
@@ -60,7 +57,7 @@ module _ (m : Meaning) (frame : Cell → Bool) (corner : Cell) (width height : �
   sides = wrong-side width || wrong-side height
 
   abbrev spans : Bool
-  spans = within-span (m .span) corner (natAbs width) (natAbs height)
+  spans = all-inside (m .span) (window-cells corner (natAbs width) (natAbs height))
 
   abbrev size : ℕ
   size = picture-size (natAbs width) (natAbs height)
@@ -71,39 +68,32 @@ module _ (m : Meaning) (frame : Cell → Bool) (corner : Cell) (width height : �
   wrong : sides ≡ true → BothSized width height → ⊥
   wrong e s = both-ways sides (or-from (wrong-side width) (wrong-side height) (sized-side width (s .0)) (sized-side height (s .1))) e
 
-  spanned : BothSized width height → spans ≡ true → Spanned here corner width height
-  spanned s e = window-within corner (m .span) (natAbs width) (natAbs height) (sized-some width (s .0)) (sized-some height (s .1)) e
+  spanned : spans ≡ true → Spanned here corner width height
+  spanned = all-within (m .span) (window-cells corner (natAbs width) (natAbs height))
 
-  unspanned : BothSized width height → spans ≡ false → Spanned here corner width height → ⊥
-  unspanned s e w = both-ways spans e (within-window corner (m .span) (natAbs width) (natAbs height) (sized-some width (s .0)) (sized-some height (s .1)) w)
+  unspanned : spans ≡ false → Spanned here corner width height → ⊥
+  unspanned e w = both-ways spans e (within-all (m .span) (window-cells corner (natAbs width) (natAbs height)) w)
 
   pub denying : Denied (window-refusal (m .span) corner width height palette output)
   denying = go sides spans (eqb palette 48) (ltb output size) refl refl refl refl
     where
       go : (a b c d : Bool) → sides ≡ a → spans ≡ b → eqb palette 48 ≡ c → ltb output size ≡ d → Denied (cond a (Some Side) (cond (not b) (Some OffSpan) (cond (not c) (Some Palette) (cond d (Some Output) None))))
       go true b c d ea eb ec ed = wrong ea
-      go false false c d ea eb ec ed = (right ea, unspanned (right ea) eb)
-      go false true false d ea eb ec ed = (right ea, spanned (right ea) eb, eqb-false palette 48 ec)
-      go false true true true ea eb ec ed = (right ea, spanned (right ea) eb, eqb-true palette 48 ec, ltb-true output size ed)
-      go false true true false ea eb ec ed = (clear, spanned (right ea) eb)
+      go false false c d ea eb ec ed = (right ea, unspanned eb)
+      go false true false d ea eb ec ed = (right ea, spanned eb, eqb-false palette 48 ec)
+      go false true true true ea eb ec ed = (right ea, spanned eb, eqb-true palette 48 ec, ltb-true output size ed)
+      go false true true false ea eb ec ed = (clear, spanned eb)
         where
           apart : (x y : ℕ) → x < y → y ≤ x → ⊥
           apart x y h k = omega arith
 
           clear : (why : WindowRefused) → Denies here corner width height palette output why → ⊥
           clear Side h = h (right ea)
-          clear OffSpan h = h .1 (spanned (right ea) eb)
+          clear OffSpan h = h .1 (spanned eb)
           clear Palette h = h .2 (eqb-true palette 48 ec)
           clear Output h = apart output size (h .3) (ltb-false output size ed)
 
--- ---- three bytes a cell
-pixels-length : (m : Meaning) (b : Board) (palette : List ℕ) (qs : List Cell) → length (pixels m b palette qs) ≡ 3 * length qs
-pixels-length m b palette [] = refl
-pixels-length m b palette (q ∷ qs) =
-    let e = length-append (colour palette (shown-ink m b q)) (pixels m b palette qs) in
-    let f = pixels-length m b palette qs in
-    omega arith
-
+-- ---- what is shown
 module _ (m : Meaning) (frame : Cell → Bool) (cl : Classes m) (L : Ledger) (b : Board) (follows : Follows m L (b .inks)) where
   pub showing : (q : Cell) → ShowsAt (setting m frame) L q (shown m b q)
   showing q = go (inside (m .span) q) refl
@@ -121,14 +111,6 @@ module _ (m : Meaning) (frame : Cell → Bool) (cl : Classes m) (L : Ledger) (b 
   painting corner width height palette before =
       go (window-refusal (m .span) corner width height (length palette) (length before)) (denying m frame corner width height (length palette) (length before))
     where
-      written : picture-size (natAbs width) (natAbs height) ≡ length (header (natAbs width) (natAbs height) ++ pixels m b palette (window-cells corner (natAbs width) (natAbs height)))
-      written =
-          let e = length-append (header (natAbs width) (natAbs height)) (pixels m b palette (window-cells corner (natAbs width) (natAbs height))) in
-          let f = pixels-length m b palette (window-cells corner (natAbs width) (natAbs height)) in
-          let g = window-length corner (natAbs width) (natAbs height) in
-          let h : 3 * length (window-cells corner (natAbs width) (natAbs height)) ≡ 3 * (natAbs width * natAbs height) = ap (λ n. 3 * n) g in
-          ap (λ n. length (header (natAbs width) (natAbs height)) + n) (sym (f ∙ h)) ∙ sym e
-
       go : (o : Option WindowRefused) → Denied m frame corner width height (length palette) (length before) o → Paints (setting m frame) L corner width height palette before (unless-refused o before (written-over (header (natAbs width) (natAbs height) ++ pixels m b palette (window-cells corner (natAbs width) (natAbs height))) before)) (windowed o (picture-size (natAbs width) (natAbs height)))
       go (Some why) h = inl (why, h, refl, refl)
-      go None h = inr (h .0, (pixels m b palette (window-cells corner (natAbs width) (natAbs height)), pixels-shown palette (window-cells corner (natAbs width) (natAbs height)) (h .1), refl, ap (λ (n : ℕ). Ok n) written))
+      go None h = inr (h .0, (pixels m b palette (window-cells corner (natAbs width) (natAbs height)), pixels-shown palette (window-cells corner (natAbs width) (natAbs height)) (h .1), refl, ap (λ (n : ℕ). Ok n) (sym (picture-length m b palette corner (natAbs width) (natAbs height)))))

@@ -14,10 +14,10 @@ use Rattle.plane.specs.declared.fold.FoldRefused.{FoldRefused}
 use Rattle.plane.specs.Meaning.{Meaning}
 use Rattle.plane.specs.Laws.{Carried}
 use Rattle.sheet.specs.declared.mark.Mark.{Mark}
-use Rattle.sheet.specs.declared.refusal.WindowRefused.{WindowRefused}
-use Rattle.sheet.specs.declared.refusal.WindowRefused.the-variants.{Side, OffSpan, Palette, Output}
-use Rattle.sheet.specs.Tints.{tinted}
-use Rattle.sheet.specs.Windows.{window-cells, header, colour, written-over}
+use Rattle.views.specs.declared.refusal.WindowRefused.{WindowRefused}
+use Rattle.views.specs.declared.refusal.WindowRefused.the-variants.{Side, OffSpan, Palette, Output}
+use Rattle.views.specs.Tints.{tinted}
+use Rattle.views.specs.Windows.{window-cells, header, colour, written-over}
 use Rattle.ledger.specs.Ledgers.{Entry, Ledger}
 use Rattle.ledger.specs.Planes.{Shows, Inked, Makes, Fewest}
 use Rattle.ledger.specs.Feeding.{Setting, setting}

@@ -8,12 +8,12 @@ use Rattle.std.proofs.shelf.Tests.{both-ways}
 use Rattle.std.specs.declared.option.Option.{Option}
 use Rattle.std.specs.declared.option.Option.the-variants.{Some, None}
 use Rattle.plane.specs.declared.cell.Cell.{Cell}
+use Rattle.plane.specs.Cells.{AllWithin}
 use Rattle.plane.specs.Operation.{xor}
 use Rattle.plane.specs.Meaning.{Meaning}
 use Rattle.plane.specs.Laws.{Neutral}
 use Rattle.canvas.specs.declared.refusal.PutRefused.the-variants.{Ink, Frame, Seats}
 use Rattle.canvas.specs.Inks.{counterpart}
-use Rattle.lines.specs.Lines.{AllWithin}
 use Rattle.sheet.specs.declared.mark.Mark.{Mark}
 use Rattle.sheet.specs.declared.refusal.LayRefused.{LayRefused}
 use Rattle.sheet.specs.declared.refusal.LayRefused.the-variants.{Clash, Canvas}

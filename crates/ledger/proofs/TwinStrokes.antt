@@ -11,9 +11,10 @@ use Rattle.std.specs.declared.option.Option.the-variants.{Some, None}
 use Rattle.std.specs.declared.result.Result.{Result}
 use Rattle.std.specs.declared.result.Result.the-variants.{Err}
 use Rattle.plane.specs.declared.cell.Cell.{Cell}
+use Rattle.plane.specs.Cells.{AllWithin}
 use Rattle.plane.specs.Meaning.{Meaning}
 use Rattle.canvas.specs.Inks.{top-ink}
-use Rattle.lines.specs.Lines.{AllWithin, top-length}
+use Rattle.lines.specs.Lines.{top-length}
 use Rattle.sheet.specs.declared.mark.Mark.{Mark}
 use Rattle.sheet.specs.declared.refusal.LayRefused.{LayRefused}
 use Rattle.sheet.specs.declared.refusal.StrokeRefused.{StrokeRefused}

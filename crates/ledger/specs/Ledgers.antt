@@ -9,7 +9,7 @@ use mathlib.Core.Logic.{_⊎_}
 use Prim.Native.Nat.{_<_}
 use Rattle.plane.specs.declared.cell.Cell.{Cell}
 use Rattle.sheet.specs.declared.mark.Mark.{Mark}
-use Rattle.sheet.specs.Tints.{tinted}
+use Rattle.views.specs.Tints.{tinted}
 
 pub record Entry : Type 0 where
   pub cell : Cell

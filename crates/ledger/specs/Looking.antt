@@ -14,11 +14,10 @@ use Rattle.plane.specs.declared.cell.Cell.{Cell}
 use Rattle.plane.specs.declared.fold.FoldRefused.{FoldRefused}
 use Rattle.plane.specs.declared.fold.FoldRefused.the-variants.{OffSpan as CellOffSpan}
 use Rattle.plane.specs.Operation.{Operation}
-use Rattle.plane.specs.Cells.{Within}
-use Rattle.lines.specs.Lines.{AllWithin}
-use Rattle.sheet.specs.declared.refusal.WindowRefused.{WindowRefused}
-use Rattle.sheet.specs.declared.refusal.WindowRefused.the-variants.{Side, OffSpan, Palette, Output}
-use Rattle.sheet.specs.Windows.{window-cells, header, colour, picture-size, written-over}
+use Rattle.plane.specs.Cells.{AllWithin, Within}
+use Rattle.views.specs.declared.refusal.WindowRefused.{WindowRefused}
+use Rattle.views.specs.declared.refusal.WindowRefused.the-variants.{Side, OffSpan, Palette, Output}
+use Rattle.views.specs.Windows.{window-cells, header, colour, picture-size, written-over}
 use Rattle.ledger.specs.Ledgers.{Ledger}
 use Rattle.ledger.specs.Planes.{Shows}
 use Rattle.ledger.specs.Feeding.{Setting}

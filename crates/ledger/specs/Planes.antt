@@ -12,7 +12,7 @@ use Rattle.plane.specs.declared.cell.Cell.{Cell}
 use Rattle.plane.specs.Operation.{Operation, carry}
 use Rattle.plane.specs.Laws.{Carried}
 use Rattle.canvas.specs.Distinct.{Member, Distinct}
-use Rattle.sheet.specs.Tints.{tinted}
+use Rattle.views.specs.Tints.{tinted}
 use Rattle.ledger.specs.Ledgers.{Entry, Ledger, Latest, Untouched, Colours}
 
 abbrev pub Shows : (Operation → Type 0) → Ledger → Cell → ℕ → Type 0

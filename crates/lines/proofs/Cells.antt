@@ -7,9 +7,9 @@ use native.Mathlib.Nat.{le-max-left, le-max-right, add-zero}
 use lib.IntN.{natAbs, _-ℤ_}
 use lib.ListN.{length, getD}
 use Rattle.plane.specs.declared.cell.Cell.{Cell}
-use Rattle.plane.specs.Cells.{Within}
+use Rattle.plane.specs.Cells.{AllWithin, Within}
 use Rattle.plane.proofs.Algebra.{same-cell}
-use Rattle.lines.specs.Lines.{reach, line-cell, cells-from, line-cells, AllWithin, Joins}
+use Rattle.lines.specs.Lines.{reach, line-cell, cells-from, line-cells, Joins}
 use Rattle.lines.proofs.Moves.{stands-first, stands-last, stands-within}
 
 pub wide-reach : (from to : Cell) → natAbs (to .x -ℤ from .x) ≤ reach from to

@@ -11,7 +11,7 @@ use lib.Dec.{eqb}
 use lib.ListN.{getD, length}
 use lib.IntN.{ℤ, pos, negsuc, natAbs, negℤ, _+ℤ_, _-ℤ_}
 use Rattle.plane.specs.declared.cell.Cell.{Cell}
-use Rattle.plane.specs.Cells.{Within}
+use Rattle.plane.specs.Cells.{AllWithin, Within}
 
 abbrev pub reach : Cell → Cell → ℕ
 reach from to = max (natAbs (to .x -ℤ from .x)) (natAbs (to .y -ℤ from .y))
@@ -45,11 +45,6 @@ line-cells from to = cells-from from to 0 (suc (reach from to))
 -- the most cells that a line may have
 abbrev pub top-length : ℕ
 top-length = 4096
-
--- every cell of a list is within a bound
-abbrev pub AllWithin : ℕ → List Cell → Type 0
-AllWithin n [] = Unit {0}
-AllWithin n (p ∷ ps) = Within n p × AllWithin n ps
 
 -- cells that go from one end to the other, as many as the reach asks for, and never leave a bound on both ends
 pub record Joins (from to : Cell) (cells : List Cell) : Type 0 where

@@ -2,6 +2,7 @@
 --     cell      a pair of whole numbers without limit: x its column, y its row
 --     earlier   in a smaller row, or in the same row and a smaller column; the least of several cells is the one that no other is earlier than
 use mathlib.Core.Bool.{Bool, true, false, _&&_, _||_}
+use mathlib.Core.List.{List, [], _∷_}
 use Prim.Native.Nat.{ℕ, _≤_}
 use lib.Dec.{leb, eqb}
 use lib.IntN.{ℤ, pos, negsuc, natAbs}
@@ -30,3 +31,13 @@ eqZ (negsuc a) (negsuc b) = eqb a b
 -- whether two cells are one
 abbrev pub same : Cell → Cell → Bool
 same p q = eqZ (p .x) (q .x) && eqZ (p .y) (q .y)
+
+-- every cell of a list is at most n columns and n rows from the origin
+abbrev pub AllWithin : ℕ → List Cell → Type 0
+AllWithin n [] = Unit {0}
+AllWithin n (p ∷ ps) = Within n p × AllWithin n ps
+
+-- the same as a test
+abbrev pub all-inside : ℕ → List Cell → Bool
+all-inside n [] = true
+all-inside n (p ∷ ps) = inside n p && all-inside n ps

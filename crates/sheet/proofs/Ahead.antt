@@ -12,11 +12,10 @@ use Rattle.std.specs.declared.option.Option.{Option}
 use Rattle.std.specs.declared.option.Option.the-variants.{Some, None}
 use Rattle.std.specs.declared.result.Result.the-variants.{Ok, Err}
 use Rattle.plane.specs.declared.cell.Cell.{Cell}
-use Rattle.plane.specs.Cells.{Within}
+use Rattle.plane.specs.Cells.{AllWithin, Within}
 use Rattle.plane.specs.Meaning.{Meaning}
 use Rattle.canvas.specs.declared.refusal.PutRefused.{PutRefused}
 use Rattle.canvas.specs.Board.{Board, put-refusal, unless, with-ink}
-use Rattle.lines.specs.Lines.{AllWithin}
 use Rattle.sheet.specs.declared.mark.Mark.{Mark}
 use Rattle.sheet.specs.declared.refusal.LayRefused.{LayRefused}
 use Rattle.sheet.specs.declared.refusal.LayRefused.the-variants.{Clash}

@@ -16,7 +16,7 @@ use Rattle.canvas.specs.Board.{Board, answered, put-answer, put-board, put-refu
 use Rattle.sheet.specs.declared.mark.Mark.{Mark}
 use Rattle.sheet.specs.declared.refusal.LayRefused.{LayRefused}
 use Rattle.sheet.specs.declared.refusal.LayRefused.the-variants.{Clash, Canvas}
-use Rattle.sheet.specs.Tints.{all-odd, clash, tinted}
+use Rattle.views.specs.Tints.{all-odd, clash, tinted}
 use Rattle.sheet.specs.Laying.{by-canvas, lay-answer, lay-board, lay-refusal}
 
 -- the answer of a put tells its refusal

@@ -15,7 +15,7 @@ use Rattle.canvas.specs.Board.{Board, put-refusal, put-board}
 use Rattle.sheet.specs.declared.mark.Mark.{Mark}
 use Rattle.sheet.specs.declared.refusal.LayRefused.{LayRefused}
 use Rattle.sheet.specs.declared.refusal.LayRefused.the-variants.{Clash, Canvas}
-use Rattle.sheet.specs.Tints.{all-odd, clash, tinted}
+use Rattle.views.specs.Tints.{all-odd, clash, tinted}
 
 abbrev pub marked : ℕ → Mark
 marked ink = record { ink = ink }

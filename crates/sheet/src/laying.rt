@@ -1,17 +1,17 @@
 // Laying cells.
 ghost use mathlib.Core.Path.{_≡_};
-ghost use Rattle.plane.specs.Cells.{Within};
-ghost use Rattle.lines.specs.Lines.{AllWithin, line-cells};
+ghost use Rattle.plane.specs.Cells.{AllWithin, Within};
+ghost use Rattle.lines.specs.Lines.{line-cells};
 ghost use Rattle.sheet.specs.Laying.{lay-all, lay-answer, lay-board, lay-refusal};
 use super::mark::Mark;
 use super::refusal::LayFromPut;
 use super::refusal::LayRefused;
-use super::tints::clash;
-use super::tints::tint;
 use canvas::canvas::Canvas;
 use lines::line::Line;
 use plane::cell::Cell;
 use plane::symmetry::Symmetry;
+use views::tints::clash;
+use views::tints::tint;
 
 // Lays a cell within the span.
 pub(crate) fn lay<S: Symmetry, C: Canvas>(

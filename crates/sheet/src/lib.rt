@@ -4,5 +4,3 @@ pub mod mark;
 pub mod refusal;
 pub mod sheet;
 mod strokes;
-mod tints;
-mod views;

@@ -2,7 +2,7 @@
 ghost use mathlib.Core.Path.{_≡_};
 ghost use Rattle.sheet.specs.declared.refusal.LayRefused.the-variants.{Canvas};
 ghost use Rattle.sheet.specs.declared.refusal.StrokeRefused.the-variants.{Stopped, TooLong};
-ghost use Rattle.sheet.specs.Refusals.{lay-number, stroke-number, window-number};
+ghost use Rattle.sheet.specs.Refusals.{lay-number, stroke-number};
 use canvas::refusal::PutRefused;
 use canvas::refusal::PutRefusedDebug;
 use canvas::refusal::PutRefusedEq;
@@ -38,19 +38,6 @@ pub enum StrokeRefused {
 pub struct StrokeStopped {
     pub refusal: StrokeRefused,
     pub laid: u16,
-}
-
-// Why a window is refused.
-#[derive(Clone, Copy, PartialEq, Eq, Debug)]
-pub enum WindowRefused {
-    // A side is below 1 or above 128.
-    Side,
-    // A cell of the window is off the span.
-    OffSpan,
-    // The palette does not have 48 bytes.
-    Palette,
-    // The output is too short.
-    Output,
 }
 
 // A canvas's refusal stops the laying.
@@ -105,20 +92,6 @@ impl StrokeRefused {
             StrokeRefused::OffSpan => 2,
             StrokeRefused::TooLong => 6,
             StrokeRefused::Stopped(why) => why.number(),
-        }
-    }
-}
-
-impl WindowRefused {
-    // The refusal's number.
-    pub fn number(self) -> u8
-        ensures { λ r. ⌜ r ≡ window-number self ⌝ }
-    {
-        match self {
-            WindowRefused::Side => 8,
-            WindowRefused::OffSpan => 2,
-            WindowRefused::Palette => 10,
-            WindowRefused::Output => 9,
         }
     }
 }

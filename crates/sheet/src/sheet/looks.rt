@@ -1,13 +1,13 @@
 // Looking at a sheet, open or closed.
 ghost use mathlib.Core.Path.{_≡_};
-ghost use Rattle.sheet.specs.Shows.{shown};
-use super::super::views;
+ghost use Rattle.views.specs.Shows.{shown};
 use super::ClosedSheet;
 use super::OpenSheet;
 use canvas::canvas::Canvas;
 use plane::cell::Cell;
 use plane::fold::FoldRefused;
 use plane::symmetry::Symmetry;
+use views::show;
 
 impl OpenSheet {
     // The ink that a cell shows.
@@ -19,7 +19,7 @@ impl OpenSheet {
     ) -> Result<u8, FoldRefused>
         ensures { λ r. ⌜ r ≡ shown (S·Symmetry .meaning (now (symmetry .entry))) (C·Canvas .board (now (canvas .entry))) at ⌝ }
     {
-        views::show(symmetry, canvas, at)
+        show::show(symmetry, canvas, at)
     }
 }
 
@@ -33,6 +33,6 @@ impl ClosedSheet {
     ) -> Result<u8, FoldRefused>
         ensures { λ r. ⌜ r ≡ shown (S·Symmetry .meaning (now (symmetry .entry))) (C·Canvas .board (now (canvas .entry))) at ⌝ }
     {
-        views::show(symmetry, canvas, at)
+        show::show(symmetry, canvas, at)
     }
 }

@@ -1,7 +1,8 @@
 use mathlib.Core.Path.{_≡_, sym, ap, ap₂, _∙_, subst}
 use Rattle.std.specs.declared.result.Result.the-variants.{Err}
 use Rattle.std.proofs.shelf.Results.{err-from-errBy}
-use Rattle.lines.specs.Lines.{AllWithin, line-cells}
+use Rattle.plane.specs.Cells.{AllWithin}
+use Rattle.lines.specs.Lines.{line-cells}
 use Rattle.sheet.specs.Laying.{Laid, lay-all}
 use Rattle.sheet.specs.Strokes.{by-laying, entry-refusal, verdict}
 use Rattle.sheet.proofs.Ahead.{lay-none, lay-some}

@@ -9,7 +9,7 @@ use Rattle.plane.specs.declared.fold.FoldRefused.the-variants.{OffSpan}
 use Rattle.plane.specs.Cells.{inside}
 use Rattle.plane.specs.Meaning.{Meaning}
 use Rattle.canvas.specs.Board.{Board}
-use Rattle.sheet.specs.Tints.{all-odd, tinted}
+use Rattle.views.specs.Tints.{all-odd, tinted}
 
 -- the ink at the home of a cell, or its counterpart if the cell's kinds are all odd
 abbrev pub shown-ink : Meaning → Board → Cell → ℕ

@@ -1,6 +1,6 @@
 // What a canvas shows under a symmetry.
 ghost use mathlib.Core.Path.{_≡_};
-ghost use Rattle.sheet.specs.Shows.{shown};
+ghost use Rattle.views.specs.Shows.{shown};
 use super::tints::tint;
 use canvas::canvas::Canvas;
 use plane::cell::Cell;
@@ -8,7 +8,7 @@ use plane::fold::FoldRefused;
 use plane::symmetry::Symmetry;
 
 // The ink that a cell shows.
-pub(crate) fn show<S: Symmetry, C: Canvas>(
+pub fn show<S: Symmetry, C: Canvas>(
     symmetry: &S,
     canvas: &C,
     at: Cell,

@@ -3,40 +3,36 @@
 --     palette   48 bytes: red, green and blue for each of the inks 0 to 15
 use mathlib.Core.Bool.{Bool, true, false, cond, _&&_, _||_, not}
 use mathlib.Core.List.{List, [], _∷_, _++_}
-use Prim.Native.Nat.{ℕ, zero, suc, _+_, _*_, _-_, _/_, _%_}
+use Prim.Native.Nat.{ℕ, zero, suc, _+_, _*_, _/_, _%_}
 use lib.Dec.{eqb, ltb}
 use lib.IntN.{ℤ, pos, natAbs, _+ℤ_}
 use lib.Signed.{ltZ}
-use lib.ListN.{getD, length, drop}
+use lib.ListN.{getD, length, take, drop}
 use Rattle.std.specs.declared.option.Option.{Option}
 use Rattle.std.specs.declared.option.Option.the-variants.{Some, None}
 use Rattle.std.specs.declared.result.Result.{Result}
 use Rattle.std.specs.declared.result.Result.the-variants.{Ok, Err}
 use Rattle.plane.specs.declared.cell.Cell.{Cell}
-use Rattle.plane.specs.Cells.{inside}
+use Rattle.plane.specs.Cells.{all-inside}
 use Rattle.plane.specs.Meaning.{Meaning}
 use Rattle.canvas.specs.Board.{Board}
-use Rattle.sheet.specs.declared.refusal.WindowRefused.{WindowRefused}
-use Rattle.sheet.specs.declared.refusal.WindowRefused.the-variants.{Side, OffSpan, Palette, Output}
-use Rattle.sheet.specs.Shows.{shown-ink}
+use Rattle.views.specs.declared.refusal.WindowRefused.{WindowRefused}
+use Rattle.views.specs.declared.refusal.WindowRefused.the-variants.{Side, OffSpan, Palette, Output}
+use Rattle.views.specs.Shows.{shown-ink}
 
 -- the cell so many columns and rows from a corner
 abbrev pub cell-from : Cell → ℕ → ℕ → Cell
 cell-from corner column row = record { x = corner .x +ℤ pos column; y = corner .y +ℤ pos row }
 
--- n cells of a row, from a column on
-abbrev pub row-cells : Cell → ℕ → ℕ → ℕ → List Cell
-row-cells corner row column zero = []
-row-cells corner row column (suc n) = cell-from corner column row ∷ row-cells corner row (suc column) n
-
--- n rows, from a row on
-abbrev pub rows-cells : Cell → ℕ → ℕ → ℕ → List Cell
-rows-cells corner width row zero = []
-rows-cells corner width row (suc n) = row-cells corner row 0 width ++ rows-cells corner width (suc row) n
+-- the first n cells of a row
+unfoldable pub row-cells : Cell → ℕ → ℕ → List Cell
+row-cells corner row zero = []
+row-cells corner row (suc n) = row-cells corner row n ++ (cell-from corner n row ∷ [])
 
 -- the cells of a rectangle, row by row
 unfoldable pub window-cells : Cell → ℕ → ℕ → List Cell
-window-cells corner width height = rows-cells corner width 0 height
+window-cells corner width zero = []
+window-cells corner width (suc n) = window-cells corner width n ++ row-cells corner n width
 
 -- the byte of a digit
 abbrev pub digit : ℕ → ℕ
@@ -74,15 +70,11 @@ picture-size width height = length (header width height) + 3 * (width * height)
 abbrev pub wrong-side : ℤ → Bool
 wrong-side n = ltZ n (pos 1) || ltZ (pos 128) n
 
--- a cell of the rectangle is off the span exactly if its corner or the cell opposite to that is
-abbrev pub within-span : ℕ → Cell → ℕ → ℕ → Bool
-within-span span corner width height = inside span corner && inside span (cell-from corner (width - 1) (height - 1))
-
 -- why a window is refused, if it is; of the palette and the output only the lengths count
 abbrev pub window-refusal : ℕ → Cell → ℤ → ℤ → ℕ → ℕ → Option WindowRefused
 window-refusal span corner width height palette output =
     cond (wrong-side width || wrong-side height) (Some Side)
-    (cond (not (within-span span corner (natAbs width) (natAbs height))) (Some OffSpan)
+    (cond (not (all-inside span (window-cells corner (natAbs width) (natAbs height)))) (Some OffSpan)
     (cond (not (eqb palette 48)) (Some Palette)
     (cond (ltb output (picture-size (natAbs width) (natAbs height))) (Some Output) None)))
 
@@ -95,7 +87,11 @@ abbrev pub window-answer : Meaning → Cell → ℤ → ℤ → List ℕ → Lis
 window-answer m corner width height palette output =
     windowed (window-refusal (m .span) corner width height (length palette) (length output)) (picture-size (natAbs width) (natAbs height))
 
--- bytes over the first of an output; the later ones stay
+-- bytes in the place of as many, from a place on; the others stay
+abbrev pub placed : List ℕ → ℕ → List ℕ → List ℕ
+placed output at bytes = take at output ++ (bytes ++ drop (at + length bytes) output)
+
+-- bytes in the place of the first ones; the later ones stay
 abbrev pub written-over : List ℕ → List ℕ → List ℕ
 written-over bytes output = bytes ++ drop (length bytes) output
 

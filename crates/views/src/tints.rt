@@ -1,18 +1,18 @@
 // What the kinds of a cell do to an ink.
 ghost use mathlib.Core.Path.{_≡_};
-ghost use Rattle.sheet.specs.Tints.{all-odd, clash, tinted};
+ghost use Rattle.views.specs.Tints.{all-odd, clash, tinted};
 use canvas::ink::counterpart;
 use plane::kinds::Kinds;
 
 // Whether all kinds are odd.
-pub(crate) fn all_odd(kinds: Kinds) -> bool
+pub fn all_odd(kinds: Kinds) -> bool
     ensures { λ r. ⌜ r ≡ all-odd kinds ⌝ }
 {
     !(kinds.even_proper || kinds.even_improper)
 }
 
 // Whether a cell of these kinds cannot have the ink.
-pub(crate) fn clash(kinds: Kinds, ink: u8) -> bool
+pub fn clash(kinds: Kinds, ink: u8) -> bool
     ensures { λ r. ⌜ r ≡ clash kinds ink ⌝ }
 {
     let neutral = (kinds.even_proper || kinds.even_improper)
@@ -21,7 +21,7 @@ pub(crate) fn clash(kinds: Kinds, ink: u8) -> bool
 }
 
 // The ink, or its counterpart if all kinds are odd.
-pub(crate) fn tint(kinds: Kinds, ink: u8) -> u8
+pub fn tint(kinds: Kinds, ink: u8) -> u8
     ensures { λ r. ⌜ r ≡ tinted (all-odd kinds) ink ⌝ }
 {
     if all_odd(kinds) {

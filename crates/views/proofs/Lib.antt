@@ -1,0 +1,4 @@
+pub mod Placing
+pub mod Cells
+pub mod Pixels
+pub mod Shown

@@ -1,0 +1,4 @@
+pub mod Tints
+pub mod Shows
+pub mod Windows
+pub mod Refusals

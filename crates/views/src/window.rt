@@ -1,0 +1,3 @@
+// Windows: pictures of the cells of a rectangle.
+mod bytes;
+mod pixels;
