@@ -1,2 +1,3 @@
 pub mod Histories
 pub mod Twins
+pub mod Outright
