@@ -82,12 +82,12 @@ module _ (m : Meaning) (frame : Cell → Bool) (seats : ℕ) (palette before : L
         let entry : ℕ → Drawn = λ k. record { call = call; answer = Some (draw-answer m k b palette call at out) } in
         let far : at ≤ past (length before) at (drawing-room call) = past-on (length before) at (drawing-room call) (a .reached .near) in
         let made : Along (es ++ (entry n ∷ [])) (draw-strokes m n b call) (draw-board m n b call) (past (length before) at (drawing-room call)) (draw-output m b palette call at out) = record {
-              page = t .after;
-              keeps = t .keeps;
-              count = t .count;
-              reached = t .moved .reached;
-              drawn = λ fin long e. draws-more here (lending palette before fin) 0 at (blank seats) A (t .after) es (entry n) (a .drawn fin long (front-front fin (draw-output m b palette call at out) at (past (length before) at (drawing-room call)) far e ∙ t .moved .early)) (t .draws fin long e);
-            } in
+          page = t .after;
+          keeps = t .keeps;
+          count = t .count;
+          reached = t .moved .reached;
+          drawn = λ fin long e. draws-more here (lending palette before fin) 0 at (blank seats) A (t .after) es (entry n) (a .drawn fin long (front-front fin (draw-output m b palette call at out) at (past (length before) at (drawing-room call)) far e ∙ t .moved .early)) (t .draws fin long e);
+        } in
         subst (λ k. Along (es ++ (entry k ∷ [])) (draw-strokes m k b call) (draw-board m k b call) (past (length before) at (drawing-room call)) (draw-output m b palette call at out)) (a .count) made
 
     -- the call at place i of the list is answered

@@ -4,8 +4,8 @@ ghost use Rattle.std.specs.declared.option.Option.the-variants.{None};
 use plane::cell::Cell;
 use plane::fold::FoldRefused;
 use sheet::refusal::StrokeStopped;
-use views::refusal::WindowRefused;
 use sheet::sheet::Quote;
+use views::refusal::WindowRefused;
 
 // A window: its corner and sides, how many bytes of the lent palette it is given, from the first on, and how many of the lent output, after those of the windows before it.
 #[derive(Clone, Copy)]

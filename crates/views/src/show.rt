@@ -8,11 +8,7 @@ use plane::fold::FoldRefused;
 use plane::symmetry::Symmetry;
 
 // The ink that a cell shows.
-pub fn show<S: Symmetry, C: Canvas>(
-    symmetry: &S,
-    canvas: &C,
-    at: Cell,
-) -> Result<u8, FoldRefused>
+pub fn show<S: Symmetry, C: Canvas>(symmetry: &S, canvas: &C, at: Cell) -> Result<u8, FoldRefused>
     ensures { λ r. ⌜ r ≡ shown (S·Symmetry .meaning (now (symmetry .entry))) (C·Canvas .board (now (canvas .entry))) at ⌝ }
 {
     let found = symmetry.fold(at)?;

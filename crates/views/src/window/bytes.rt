@@ -27,7 +27,11 @@ fn put_decimal(output: &mut [u8], at: usize, n: u8) -> usize
     if n < 100 {
         return put(output, at, &[b'0' + n / 10, b'0' + n % 10]);
     }
-    put(output, at, &[b'0' + n / 100, b'0' + n / 10 % 10, b'0' + n % 10])
+    put(
+        output,
+        at,
+        &[b'0' + n / 100, b'0' + n / 10 % 10, b'0' + n % 10],
+    )
 }
 
 // Writes what stands before the pixels.

@@ -37,12 +37,23 @@ fn pixel<S: Symmetry, C: Canvas>(symmetry: &S, canvas: &C, at: Cell, palette: &[
     requires palette { ⌜ length (now palette) ≡ 48 ⌝ }
     ensures { λ r. ⌜ r ≡ colour (now (palette .entry)) (shown-ink (S·Symmetry .meaning (now (symmetry .entry))) (C·Canvas .board (now (canvas .entry))) at) ⌝ }
 {
-    let Ok(ink) = show(symmetry, canvas, at) else { unreachable() };
+    let Ok(ink) = show(symmetry, canvas, at) else {
+        unreachable()
+    };
     colour(palette, ink)
 }
 
 // Writes the pixels of a row.
-fn put_row<S: Symmetry, C: Canvas>(symmetry: &S, canvas: &C, corner: Cell, row: u8, width: u8, palette: &[u8], output: &mut [u8], at: usize) -> usize
+fn put_row<S: Symmetry, C: Canvas>(
+    symmetry: &S,
+    canvas: &C,
+    corner: Cell,
+    row: u8,
+    width: u8,
+    palette: &[u8],
+    output: &mut [u8],
+    at: usize,
+) -> usize
     requires corner { ⌜ Within 4_294_967_295 corner ⌝ }
     requires within { ⌜ AllWithin (S·Symmetry .meaning (now symmetry) .span) (row-cells corner row width) ⌝ }
     requires palette { ⌜ length (now palette) ≡ 48 ⌝ }
@@ -59,7 +70,16 @@ fn put_row<S: Symmetry, C: Canvas>(symmetry: &S, canvas: &C, corner: Cell, row: 
 }
 
 // Writes the pixels of all rows.
-pub(crate) fn put_rows<S: Symmetry, C: Canvas>(symmetry: &S, canvas: &C, corner: Cell, width: u8, height: u8, palette: &[u8], output: &mut [u8], at: usize)
+pub(crate) fn put_rows<S: Symmetry, C: Canvas>(
+    symmetry: &S,
+    canvas: &C,
+    corner: Cell,
+    width: u8,
+    height: u8,
+    palette: &[u8],
+    output: &mut [u8],
+    at: usize,
+)
     requires corner { ⌜ Within 4_294_967_295 corner ⌝ }
     requires within { ⌜ AllWithin (S·Symmetry .meaning (now symmetry) .span) (window-cells corner width height) ⌝ }
     requires palette { ⌜ length (now palette) ≡ 48 ⌝ }

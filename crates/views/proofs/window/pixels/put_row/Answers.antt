@@ -43,11 +43,10 @@ loop-column-again g c =
     let three : length (c .pixel .result) ≡ 3 = ap length (c .pixel .ensures) in
     let many : length cells ≡ column = row-length corner row column in
     let from : c .loop-column .next ≡ at + 3 * length cells = omega (arith, c .loop-column .inv .0) in
-    let room : at + 3 * length cells ≤ length (c .args .output .now) = omega (arith, c .pre .room) in
-    (
+    let room : at + 3 * length cells ≤ length (c .args .output .now) = omega (arith, c .pre .room) in (
       omega (arith, c .loop-column .inv .0, c .put-next .ensures .next),
       pixels-more m b palette (c .args .output .now) at cells (cell-from corner column row ∷ []) (row-cells corner row (column + 1)) (c .loop-column .output) (c .put-next .last .output) (c .pixel .result) (c .loop-column .next)
-        (c .loop-column .inv .1) from room (c .put-next .ensures .output) (c .pixel .ensures ∙ ap (λ p. colour palette (shown-ink m b p)) (c .cell-from-cell .ensures)) (row-more corner row column),
+          (c .loop-column .inv .1) from room (c .put-next .ensures .output) (c .pixel .ensures ∙ ap (λ p. colour palette (shown-ink m b p)) (c .cell-from-cell .ensures)) (row-more corner row column),
     )
 
 pub returns : need.returns

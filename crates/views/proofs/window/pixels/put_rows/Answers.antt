@@ -43,11 +43,10 @@ loop-row-again g c =
     let below : row ≤ c .args .height = omega arith in
     let wide : width * row ≤ width * c .args .height = mul-le-mul-left width below in
     let from : c .loop-row .next ≡ at + 3 * length cells = omega (arith, c .loop-row .inv .0) in
-    let room : at + 3 * length cells ≤ length (c .args .output .now) = omega (arith, c .pre .room) in
-    (
+    let room : at + 3 * length cells ≤ length (c .args .output .now) = omega (arith, c .pre .room) in (
       omega (arith, c .loop-row .inv .0, c .put-row-next .ensures .next, mul-suc width row, ap (λ n. width * n) (add-one row)),
       pixels-more m b (c .args .palette .now) (c .args .output .now) at cells (row-cells corner row width) (window-cells corner width (row + 1)) (c .loop-row .output) (c .put-row-next .last .output) (pixels m b (c .args .palette .now) (row-cells corner row width)) (c .loop-row .next)
-        (c .loop-row .inv .1) from room (c .put-row-next .ensures .output) refl (window-more corner width row),
+          (c .loop-row .inv .1) from room (c .put-row-next .ensures .output) refl (window-more corner width row),
     )
 
 pub returns : need.returns
