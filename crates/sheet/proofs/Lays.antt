@@ -1,10 +1,9 @@
 -- One cell: what is laid where its fold and the canvas's answer are known.
-use mathlib.Core.Path.{_≡_, refl, sym, ap, ap₂, _∙_}
-use mathlib.Core.Bool.{Bool, true, false, cond}
+use mathlib.Core.Path.{_≡_, refl, sym, ap, _∙_}
+use mathlib.Core.Bool.{true, false, cond}
 use Prim.Native.Nat.{ℕ}
 use Rattle.std.specs.declared.option.Option.{Option}
 use Rattle.std.specs.declared.option.Option.the-variants.{Some, None}
-use Rattle.std.specs.declared.result.Result.{Result}
 use Rattle.std.specs.declared.result.Result.the-variants.{Ok, Err}
 use Rattle.std.proofs.shelf.Tests.{cond-true, cond-false}
 use Rattle.plane.specs.declared.cell.Cell.{Cell}
@@ -17,7 +16,7 @@ use Rattle.sheet.specs.declared.mark.Mark.{Mark}
 use Rattle.sheet.specs.declared.refusal.LayRefused.{LayRefused}
 use Rattle.sheet.specs.declared.refusal.LayRefused.the-variants.{Clash, Canvas}
 use Rattle.views.specs.Tints.{all-odd, clash, tinted}
-use Rattle.sheet.specs.Laying.{by-canvas, lay-answer, lay-board, lay-refusal}
+use Rattle.sheet.specs.Laying.{by-canvas, lay-board, lay-refusal}
 
 -- the answer of a put tells its refusal
 put-none : (o : Option PutRefused) (u : Unit {0}) → Ok u ≡ answered o → o ≡ None

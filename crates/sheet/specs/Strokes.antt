@@ -1,7 +1,7 @@
 -- What a stroke answers, and the strokes and the board it leaves.
 --     stroke    cells with an ink: a dot has one cell, a line those from one end to the other
 --     strokes   how many strokes of a sheet laid at least one cell
-use mathlib.Core.Bool.{Bool, true, false, cond, _&&_, not}
+use mathlib.Core.Bool.{cond, _&&_, not}
 use mathlib.Core.List.{List, [], _∷_}
 use Prim.Native.Nat.{ℕ, _+_}
 use lib.Dec.{eqb, leb, ltb}

@@ -48,7 +48,8 @@ pub(crate) fn lay_line<S: Symmetry, C: Canvas>(
     ensures count { λ _. ⌜ now (laid .exit) ≡ lay-all (S·Symmetry .meaning (now (symmetry .entry))) (C·Canvas .board (now (canvas .entry))) mark (line-cells (now (line .entry) .from) (now (line .entry) .to)) .count ⌝ }
     ensures after { λ _. ⌜ C·Canvas .board (now (canvas .exit)) ≡ lay-all (S·Symmetry .meaning (now (symmetry .entry))) (C·Canvas .board (now (canvas .entry))) mark (line-cells (now (line .entry) .from) (now (line .entry) .to)) .board ⌝ }
 {
-    for i in 0..line.cells() {
+    let cells = line.cells();
+    for i in 0..cells {
         lay(symmetry, canvas, line.cell(i), mark)?;
         *laid += 1;
     }

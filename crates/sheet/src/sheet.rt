@@ -3,8 +3,8 @@ ghost use mathlib.Core.Path.{_≡_};
 ghost use Rattle.canvas.specs.Board.{cleared};
 use canvas::canvas::Canvas;
 
-mod draws;
-mod looks;
+mod closed;
+mod opened;
 
 // A sheet that takes strokes. It is neither copied nor dropped.
 pub struct OpenSheet {
@@ -49,8 +49,8 @@ impl OpenSheet {
     pub fn leave(self) -> u16
         ensures { λ r. ⌜ r ≡ self .strokes ⌝ }
     {
-        let OpenSheet { strokes } = self;
-        strokes
+        let OpenSheet { strokes: had } = self;
+        had
     }
 }
 

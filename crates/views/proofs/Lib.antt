@@ -2,3 +2,5 @@ pub mod Placing
 pub mod Cells
 pub mod Pixels
 pub mod Shown
+pub mod Corners
+pub mod Judging

@@ -1,7 +1,7 @@
 -- The bytes of a window: a binary PPM picture of the cells of a rectangle.
 --     corner    the cell of the rectangle with the least column and the least row
 --     palette   48 bytes: red, green and blue for each of the inks 0 to 15
-use mathlib.Core.Bool.{Bool, true, false, cond, _&&_, _||_, not}
+use mathlib.Core.Bool.{Bool, cond, _||_, not}
 use mathlib.Core.List.{List, [], _∷_, _++_}
 use Prim.Native.Nat.{ℕ, zero, suc, _+_, _*_, _/_, _%_}
 use lib.Dec.{eqb, ltb}
@@ -69,6 +69,10 @@ picture-size width height = length (header width height) + 3 * (width * height)
 -- below 1 or above 128
 abbrev pub wrong-side : ℤ → Bool
 wrong-side n = ltZ n (pos 1) || ltZ (pos 128) n
+
+-- a side as a number, unless it is wrong
+abbrev pub side-of : ℤ → Result ℕ WindowRefused
+side-of n = cond (wrong-side n) (Err Side) (Ok (natAbs n))
 
 -- why a window is refused, if it is; of the palette and the output only the lengths count
 abbrev pub window-refusal : ℕ → Cell → ℤ → ℤ → ℕ → ℕ → Option WindowRefused

@@ -5,7 +5,7 @@ use canvas::ink::counterpart;
 use plane::kinds::Kinds;
 
 // Whether all kinds are odd.
-pub fn all_odd(kinds: Kinds) -> bool
+fn all_odd(kinds: Kinds) -> bool
     ensures { λ r. ⌜ r ≡ all-odd kinds ⌝ }
 {
     !(kinds.even_proper || kinds.even_improper)

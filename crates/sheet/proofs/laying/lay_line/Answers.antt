@@ -1,4 +1,4 @@
-use mathlib.Core.Path.{_≡_, sym, ap, _∙_, subst}
+use mathlib.Core.Path.{sym, ap, _∙_, subst}
 use Prim.Native.Nat.{_<_, _≤_}
 use native.Mathlib.Omega.{arith}
 use lib.ListN.{length}
@@ -14,7 +14,7 @@ pub lay-requires : need.lay-requires
 lay-requires g c κs =
     let line = c .args .line .now in
     let cells = line-cells (line .from) (line .to) in
-    let short : c .loop-i .i < length cells = omega (arith, c .cells-i-end .ensures) in
+    let short : c .loop-i .i < length cells = omega (arith, c .cells-cells .ensures) in
     subst (Within (g .S·Symmetry .meaning (c .args .symmetry .now) .span)) (sym (c .cell .ensures)) (within-at (g .S·Symmetry .meaning (c .args .symmetry .now) .span) cells (c .pre .within) (c .loop-i .i) (line .to) short)
 
 pub loop-i-holds : need.loop-i-holds
@@ -27,7 +27,7 @@ returns-in-Break-lay g c =
     let line = c .args .line .now in
     let cells = line-cells (line .from) (line .to) in
     let whole = lay-all m (g .C·Canvas .board (c .args .canvas .now)) (c .args .mark) cells in
-    let short : c .loop-i .i < length cells = omega (arith, c .cells-i-end .ensures) in
+    let short : c .loop-i .i < length cells = omega (arith, c .cells-cells .ensures) in
     let t = c .in-Break-lay .ensures tt in
     let e = err-from-errBy (c .from-residual .result) (c .from-residual .ensures .1) in
     let w = ahead-stop m (c .args .mark) cells whole (c .loop-i .i) (g .C·Canvas .board (c .loop-i .canvas)) (c .loop-i .inv .1) (c .cell .result) (line .to) short (c .cell .ensures) (c .in-Break-lay .field-0 .0) (t .answer) in
@@ -39,7 +39,7 @@ loop-i-again g c =
     let line = c .args .line .now in
     let cells = line-cells (line .from) (line .to) in
     let whole = lay-all m (g .C·Canvas .board (c .args .canvas .now)) (c .args .mark) cells in
-    let short : c .loop-i .i < length cells = omega (arith, c .cells-i-end .ensures) in
+    let short : c .loop-i .i < length cells = omega (arith, c .cells-cells .ensures) in
     let t = c .in-Continue-lay .ensures tt in (
       omega (arith, c .loop-i .inv .0),
       ahead-more m (c .args .mark) cells whole (c .loop-i .i) (g .C·Canvas .board (c .loop-i .canvas)) (c .loop-i .inv .1) (c .cell .result) (line .to) short (c .cell .ensures) (c .in-Continue-lay .field-0) (g .C·Canvas .board (c .lay .last .canvas)) (t .answer) (t .after),
@@ -51,6 +51,6 @@ returns g c =
     let line = c .args .line .now in
     let cells = line-cells (line .from) (line .to) in
     let whole = lay-all m (g .C·Canvas .board (c .args .canvas .now)) (c .args .mark) cells in
-    let done : length cells ≤ c .loop-i .i = omega (arith, c .cells-i-end .ensures) in
+    let done : length cells ≤ c .loop-i .i = omega (arith, c .cells-cells .ensures) in
     let w = ahead-end m (c .args .mark) cells whole (c .loop-i .i) (g .C·Canvas .board (c .loop-i .canvas)) (c .loop-i .inv .1) done in
     record { answer = ap lay-answer (w .1); count = c .loop-i .inv .0 ∙ w .0; after = w .2 }

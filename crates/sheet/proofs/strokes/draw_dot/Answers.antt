@@ -1,12 +1,11 @@
-use mathlib.Core.Path.{_≡_, sym, ap, _∙_}
+use mathlib.Core.Path.{ap, _∙_}
 use mathlib.Core.List.{[], _∷_}
-use native.Mathlib.Omega.{arith}
 use lib.Dec.{lit≤}
 use Rattle.std.specs.declared.option.Option.the-variants.{Some, None}
 use Rattle.std.specs.declared.result.Result.the-variants.{Err}
 use Rattle.std.proofs.shelf.Results.{err-from-errBy}
 use Rattle.sheet.specs.Laying.{Laid, lay-board}
-use Rattle.sheet.specs.Strokes.{entry-refusal, verdict}
+use Rattle.sheet.specs.Strokes.{verdict}
 use Rattle.sheet.proofs.Strikes.{dot-laid, dot-stopped, drawn-barred, drawn-laid}
 use Rattle.sheet.proofs.strokes.draw_dot.Needs as need
 

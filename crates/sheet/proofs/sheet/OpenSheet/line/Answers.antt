@@ -1,4 +1,4 @@
-use mathlib.Core.Path.{_≡_, ap, ap₂, _∙_, subst}
+use mathlib.Core.Path.{ap, ap₂, _∙_, subst}
 use Prim.Native.Nat.{_<_}
 use Rattle.lines.specs.Lines.{line-cells}
 use Rattle.sheet.specs.Laying.{marked}

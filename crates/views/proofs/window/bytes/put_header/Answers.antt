@@ -1,9 +1,9 @@
-use mathlib.Core.Path.{_≡_, ap, _∙_, subst}
+use mathlib.Core.Path.{_≡_, ap, _∙_}
 use mathlib.Core.List.{List, [], _∷_, _++_}
 use Prim.Native.Nat.{ℕ}
 use lib.ListN.{length}
 use Rattle.views.specs.Windows.{decimal, header, written-over}
-use Rattle.views.proofs.Placing.{Written, written-first, written-more, joined}
+use Rattle.views.proofs.Placing.{written-first, written-more, joined}
 use Rattle.views.proofs.window.bytes.put_header.Needs as need
 
 pub returns : need.returns

@@ -1,6 +1,5 @@
-use mathlib.Core.Path.{ap, sym, subst}
+use mathlib.Core.Path.{sym, subst}
 use Prim.Native.Nat.{_≤_}
-use Rattle.views.specs.Shows.{shown-ink}
 use Rattle.views.proofs.Shown.{shown-ok, shown-small}
 use Rattle.views.proofs.window.pixels.pixel.Needs as need
 
