@@ -2,3 +2,4 @@ pub mod Parts
 pub mod Steps
 pub mod Runs
 pub mod TwinRuns
+pub mod Painted

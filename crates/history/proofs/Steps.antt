@@ -43,7 +43,7 @@ use Rattle.history.specs.Outright.{look-answer, look-output, draw-answer, draw
 use Rattle.history.proofs.Parts.{Patched, patch, patch-none, part-front, drop-past}
 
 -- a window leaves its output as long as it was
-window-long : (m : Meaning) (b : Board) (corner : Cell) (width height : ℤ) (palette output : List ℕ) → length (window-output m b corner width height palette output) ≡ length output
+pub window-long : (m : Meaning) (b : Board) (corner : Cell) (width height : ℤ) (palette output : List ℕ) → length (window-output m b corner width height palette output) ≡ length output
 window-long m b corner width height palette output =
     go (wrong-side width || wrong-side height) (all-inside (m .span) (window-cells corner (natAbs width) (natAbs height))) (eqb (length palette) 48) (ltb (length output) (picture-size (natAbs width) (natAbs height))) refl
   where

@@ -1,0 +1,1 @@
+// Replaying a whole history.
