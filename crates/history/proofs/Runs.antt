@@ -5,7 +5,7 @@ use mathlib.Core.List.{List, [], _∷_, _++_}
 use Prim.Native.Nat.{ℕ, _+_, _≤_, _<_}
 use native.Mathlib.Omega.{arith}
 use lib.ListN.{length, take, drop, set}
-use Rattle.std.proofs.shelf.Lists.{take-more-set}
+use Rattle.std.proofs.shelf.Lists.{take-all, take-more-set}
 use Rattle.std.specs.declared.option.Option.{Option}
 use Rattle.std.specs.declared.option.Option.the-variants.{Some, None}
 use Rattle.plane.specs.declared.cell.Cell.{Cell}
@@ -162,3 +162,13 @@ along-none m b palette before = record {
   reached = record { near = omega arith; long = refl; rest = refl };
   drawn = λ fin long e. (refl, refl);
 }
+
+pub along-open : (m : Meaning) (b c : Board) (palette before : List ℕ) (strokes : ℕ) → c ≡ cleared b → strokes ≡ 0 → Along m (c .frame) (c .seats) palette before [] strokes c 0 before
+along-open m b c palette before strokes e z =
+    subst₂ (λ (d : Board) (n : ℕ). Along m (d .frame) (d .seats) palette before [] n d 0 before) (sym e) (sym z) (along-none m b palette before)
+
+-- all calls on the open sheet were made, on a canvas that was cleared
+pub along-all : (m : Meaning) (b c d : Board) (palette before : List ℕ) (es : List Drawn) (i strokes at : ℕ) (out : List ℕ) → c ≡ cleared b → length es ≤ i → Along m (c .frame) (c .seats) palette before (take i es) strokes d at out → Along m (b .frame) (b .seats) palette before es strokes d at out
+along-all m b c d palette before es i strokes at out e h a =
+    let here : Along m (b .frame) (b .seats) palette before (take i es) strokes d at out = subst (λ (k : Board). Along m (k .frame) (k .seats) palette before (take i es) strokes d at out) e a in
+    subst (λ (xs : List Drawn). Along m (b .frame) (b .seats) palette before xs strokes d at out) (take-all i es h) here

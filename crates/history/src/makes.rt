@@ -51,7 +51,15 @@ pub(crate) fn viewing_room(call: Viewing) -> usize
 }
 
 // Looks at an open sheet. A window writes to its part of the output, which begins at a place.
-fn look_open<S: Symmetry, C: Canvas>(sheet: &OpenSheet, symmetry: &S, canvas: &C, palette: &[u8], look: Look, output: &mut [u8], at: usize) -> Answer
+fn look_open<S: Symmetry, C: Canvas>(
+    sheet: &OpenSheet,
+    symmetry: &S,
+    canvas: &C,
+    palette: &[u8],
+    look: Look,
+    output: &mut [u8],
+    at: usize,
+) -> Answer
     requires { ⌜ at ≤ length (now output) ⌝ }
     ensures answer { λ r. ⌜ r ≡ look-answer (S·Symmetry .meaning (now (symmetry .entry))) (C·Canvas .board (now (canvas .entry))) (now (palette .entry)) look at (now (output .entry)) ⌝ }
     ensures output { λ _. ⌜ now (output .exit) ≡ look-output (S·Symmetry .meaning (now (symmetry .entry))) (C·Canvas .board (now (canvas .entry))) (now (palette .entry)) look at (now (output .entry)) ⌝ }
@@ -61,13 +69,29 @@ fn look_open<S: Symmetry, C: Canvas>(sheet: &OpenSheet, symmetry: &S, canvas: &C
         Look::Window(window) => {
             let inks = &palette[..window.palette.min(palette.len())];
             let end = past(output.len(), at, window.output);
-            Answer::Windowed(sheet.window(symmetry, canvas, window.corner, window.width, window.height, inks, &mut output[at..end]))
+            Answer::Windowed(sheet.window(
+                symmetry,
+                canvas,
+                window.corner,
+                window.width,
+                window.height,
+                inks,
+                &mut output[at..end],
+            ))
         }
     }
 }
 
 // Looks at a closed sheet.
-fn look_closed<S: Symmetry, C: Canvas>(sheet: &ClosedSheet, symmetry: &S, canvas: &C, palette: &[u8], look: Look, output: &mut [u8], at: usize) -> Answer
+fn look_closed<S: Symmetry, C: Canvas>(
+    sheet: &ClosedSheet,
+    symmetry: &S,
+    canvas: &C,
+    palette: &[u8],
+    look: Look,
+    output: &mut [u8],
+    at: usize,
+) -> Answer
     requires { ⌜ at ≤ length (now output) ⌝ }
     ensures answer { λ r. ⌜ r ≡ look-answer (S·Symmetry .meaning (now (symmetry .entry))) (C·Canvas .board (now (canvas .entry))) (now (palette .entry)) look at (now (output .entry)) ⌝ }
     ensures output { λ _. ⌜ now (output .exit) ≡ look-output (S·Symmetry .meaning (now (symmetry .entry))) (C·Canvas .board (now (canvas .entry))) (now (palette .entry)) look at (now (output .entry)) ⌝ }
@@ -77,13 +101,29 @@ fn look_closed<S: Symmetry, C: Canvas>(sheet: &ClosedSheet, symmetry: &S, canvas
         Look::Window(window) => {
             let inks = &palette[..window.palette.min(palette.len())];
             let end = past(output.len(), at, window.output);
-            Answer::Windowed(sheet.window(symmetry, canvas, window.corner, window.width, window.height, inks, &mut output[at..end]))
+            Answer::Windowed(sheet.window(
+                symmetry,
+                canvas,
+                window.corner,
+                window.width,
+                window.height,
+                inks,
+                &mut output[at..end],
+            ))
         }
     }
 }
 
 // Makes a call on an open sheet.
-pub(crate) fn draw<S: Symmetry, C: Canvas>(sheet: &mut OpenSheet, symmetry: &S, canvas: &mut C, palette: &[u8], call: Drawing, output: &mut [u8], at: usize) -> Answer
+pub(crate) fn draw<S: Symmetry, C: Canvas>(
+    sheet: &mut OpenSheet,
+    symmetry: &S,
+    canvas: &mut C,
+    palette: &[u8],
+    call: Drawing,
+    output: &mut [u8],
+    at: usize,
+) -> Answer
     requires { ⌜ at ≤ length (now output) ⌝ }
     ensures answer { λ r. ⌜ r ≡ draw-answer (S·Symmetry .meaning (now (symmetry .entry))) (now (sheet .entry) .strokes) (C·Canvas .board (now (canvas .entry))) (now (palette .entry)) call at (now (output .entry)) ⌝ }
     ensures sheet { λ _. ⌜ now (sheet .exit) .strokes ≡ draw-strokes (S·Symmetry .meaning (now (symmetry .entry))) (now (sheet .entry) .strokes) (C·Canvas .board (now (canvas .entry))) call ⌝ }
@@ -92,13 +132,27 @@ pub(crate) fn draw<S: Symmetry, C: Canvas>(sheet: &mut OpenSheet, symmetry: &S, 
 {
     match call {
         Drawing::Dot { at: cell, ink } => Answer::Stroked(sheet.dot(symmetry, canvas, cell, ink)),
-        Drawing::Line { from, to, ink } => Answer::Stroked(sheet.line(symmetry, canvas, from, to, ink)),
+        Drawing::Line { from, to, ink } => Answer::Stroked(sheet.line(
+            symmetry,
+            canvas,
+            from,
+            to,
+            ink,
+        )),
         Drawing::Look(look) => look_open(sheet, symmetry, canvas, palette, look, output, at),
     }
 }
 
 // Makes a call on a closed sheet.
-pub(crate) fn view<S: Symmetry, C: Canvas>(sheet: &ClosedSheet, symmetry: &S, canvas: &C, palette: &[u8], call: Viewing, output: &mut [u8], at: usize) -> Answer
+pub(crate) fn view<S: Symmetry, C: Canvas>(
+    sheet: &ClosedSheet,
+    symmetry: &S,
+    canvas: &C,
+    palette: &[u8],
+    call: Viewing,
+    output: &mut [u8],
+    at: usize,
+) -> Answer
     requires { ⌜ at ≤ length (now output) ⌝ }
     ensures answer { λ r. ⌜ r ≡ view-answer (S·Symmetry .meaning (now (symmetry .entry))) (now (sheet .entry) .held) (now (sheet .entry) .strokes) (C·Canvas .board (now (canvas .entry))) (now (palette .entry)) call at (now (output .entry)) ⌝ }
     ensures output { λ _. ⌜ now (output .exit) ≡ view-output (S·Symmetry .meaning (now (symmetry .entry))) (C·Canvas .board (now (canvas .entry))) (now (palette .entry)) call at (now (output .entry)) ⌝ }

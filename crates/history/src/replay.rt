@@ -17,7 +17,14 @@ use plane::symmetry::Symmetry;
 use sheet::sheet::OpenSheet;
 
 // Opens a sheet on a canvas and makes every call of a history on it, in order, and fills in the answers; then, if there are calls for a closed sheet, closes it and makes those. Each window has its part of the output, after the parts of the windows before it.
-pub fn replay<S: Symmetry, C: Canvas>(symmetry: &S, canvas: &mut C, palette: &[u8], drawing: &mut [Drawn], viewing: Option<&mut [Viewed]>, output: &mut [u8])
+pub fn replay<S: Symmetry, C: Canvas>(
+    symmetry: &S,
+    canvas: &mut C,
+    palette: &[u8],
+    drawing: &mut [Drawn],
+    viewing: Option<&mut [Viewed]>,
+    output: &mut [u8],
+)
     ensures drawing { λ _. ⌜ drawing-calls (now (drawing .exit)) ≡ drawing-calls (now (drawing .entry)) ⌝ }
     ensures viewing { λ _. ⌜ viewing-calls (returned (viewing .exit)) ≡ viewing-calls (passed (viewing .entry)) ⌝ }
     ensures told { λ _. ⌜ Told (setting (S·Symmetry .meaning (now (symmetry .entry))) (C·Canvas .board (now (canvas .entry)) .frame)) (C·Canvas .board (now (canvas .entry)) .seats) (record { palette = now (palette .entry); before = now (output .entry); after = now (output .exit) }) (now (drawing .exit)) (returned (viewing .exit)) (shown-ink (S·Symmetry .meaning (now (symmetry .entry))) (C·Canvas .board (now (canvas .exit)))) ⌝ }
