@@ -178,3 +178,8 @@ twins-agree m frame cl seats lent drawing viewing ink t lent′ drawing′ viewi
       viewed = v .answers;
       bytes = λ e. d .rest e (v .rest e (t .rest ∙ ap (drop (t .end)) e ∙ ap (λ n. drop n (lent′ .before)) (v .ends) ∙ sym (u .rest) ∙ sym (ap (λ n. drop n (lent′ .after)) (v .ends))));
     }
+
+-- two told histories whose calls were twins when they were passed
+pub both-agree : (m : Meaning) (frame frame′ : Cell → Bool) (seats seats′ : ℕ) (lent lent′ : Lent) (given given′ drawing drawing′ : List Drawn) (asked asked′ viewing viewing′ : Option (List Viewed)) (ink′ : Cell → ℕ) → frame′ ≡ frame → seats′ ≡ seats → TwinCalls (setting m frame) (drawing-calls given) (drawing-calls given′) → viewing-calls asked ≡ viewing-calls asked′ → lent .palette ≡ lent′ .palette → length (lent .before) ≡ length (lent′ .before) → drawing-calls drawing ≡ drawing-calls given → drawing-calls drawing′ ≡ drawing-calls given′ → viewing-calls viewing ≡ viewing-calls asked → viewing-calls viewing′ ≡ viewing-calls asked′ → Told (setting m frame′) seats′ lent′ drawing′ viewing′ ink′ → TwinsAgree (setting m frame) seats lent drawing viewing → Agree lent drawing viewing lent′ drawing′ viewing′
+both-agree m frame frame′ seats seats′ lent lent′ given given′ drawing drawing′ asked asked′ viewing viewing′ ink′ ef es calls views ep el ed ed′ ev ev′ told agree =
+    agree lent′ drawing′ viewing′ ink′ (subst₂ (TwinCalls (setting m frame)) (sym ed) (sym ed′) calls) (ev ∙ views ∙ sym ev′) ep el (subst₂ (λ (f : Cell → Bool) (n : ℕ). Told (setting m f) n lent′ drawing′ viewing′ ink′) ef es told)

@@ -1,9 +1,11 @@
 // Replaying a whole history.
 ghost use mathlib.Core.Path.{_≡_};
+ghost use lib.ListN.{length};
+ghost use Rattle.std.specs.declared.option.Option.the-variants.{Some};
 ghost use Rattle.views.specs.Shows.{shown-ink};
 ghost use Rattle.ledger.specs.Feeding.{setting};
 ghost use Rattle.history.specs.Histories.{Told};
-ghost use Rattle.history.specs.Twins.{TwinsAgree, drawing-calls, viewing-calls};
+ghost use Rattle.history.specs.Twins.{Agree, TwinCalls, TwinsAgree, drawing-calls, viewing-calls};
 ghost use Rattle.history.specs.Passed.{passed, returned};
 use super::calls::Drawn;
 use super::calls::Viewed;
@@ -53,4 +55,30 @@ pub fn replay<S: Symmetry, C: Canvas>(
             closed.leave();
         }
     }
+}
+
+// Replays two histories that close, under one symmetry and each on a canvas of its own. A history and its twin get the same answers and window bytes.
+pub fn replay_both<S: Symmetry, C: Canvas>(
+    symmetry: &S,
+    palette: &[u8],
+    canvas: &mut C,
+    drawing: &mut [Drawn],
+    viewing: &mut [Viewed],
+    output: &mut [u8],
+    other_canvas: &mut C,
+    other_drawing: &mut [Drawn],
+    other_viewing: &mut [Viewed],
+    other_output: &mut [u8],
+)
+    ensures { λ _. ⌜ (C·Canvas .board (now («other_canvas» .entry)) .frame ≡ C·Canvas .board (now (canvas .entry)) .frame → C·Canvas .board (now («other_canvas» .entry)) .seats ≡ C·Canvas .board (now (canvas .entry)) .seats → TwinCalls (setting (S·Symmetry .meaning (now (symmetry .entry))) (C·Canvas .board (now (canvas .entry)) .frame)) (drawing-calls (now (drawing .entry))) (drawing-calls (now («other_drawing» .entry))) → viewing-calls (Some (now (viewing .entry))) ≡ viewing-calls (Some (now («other_viewing» .entry))) → length (now (output .entry)) ≡ length (now («other_output» .entry)) → Agree (record { palette = now (palette .entry); before = now (output .entry); after = now (output .exit) }) (now (drawing .exit)) (Some (now (viewing .exit))) (record { palette = now (palette .entry); before = now («other_output» .entry); after = now («other_output» .exit) }) (now («other_drawing» .exit)) (Some (now («other_viewing» .exit)))) ⌝ }
+{
+    replay(symmetry, canvas, palette, drawing, Some(viewing), output);
+    replay(
+        symmetry,
+        other_canvas,
+        palette,
+        other_drawing,
+        Some(other_viewing),
+        other_output,
+    );
 }
