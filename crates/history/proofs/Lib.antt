@@ -1,0 +1,5 @@
+pub mod Parts
+pub mod Steps
+pub mod Runs
+pub mod TwinRuns
+pub mod Painted

@@ -1,0 +1,4 @@
+pub mod Histories
+pub mod Twins
+pub mod Outright
+pub mod Passed
