@@ -1,3 +1,2 @@
-pub mod Lays
 pub mod Ahead
 pub mod Strikes

@@ -2,7 +2,8 @@
 ghost use mathlib.Core.Path.{_≡_};
 ghost use Rattle.plane.specs.Cells.{AllWithin, Within};
 ghost use Rattle.lines.specs.Lines.{line-cells};
-ghost use Rattle.sheet.specs.Laying.{lay-all, lay-answer, lay-board, lay-refusal};
+ghost use Rattle.canvas.specs.Board.{put-board, put-refusal};
+ghost use Rattle.sheet.specs.Laying.{by-canvas, lay-all, lay-answer, lay-board, lay-refusal};
 use super::mark::Mark;
 use super::refusal::LayFromPut;
 use super::refusal::LayRefused;
@@ -12,6 +13,15 @@ use plane::cell::Cell;
 use plane::symmetry::Symmetry;
 use views::tints::clash;
 use views::tints::tint;
+
+// Puts an ink at a home.
+fn put_home<C: Canvas>(canvas: &mut C, home: Cell, ink: u8) -> Result<(), LayRefused>
+    ensures answer { λ r. ⌜ r ≡ lay-answer (by-canvas (put-refusal (C·Canvas .board (now (canvas .entry))) home ink)) ⌝ }
+    ensures after { λ _. ⌜ C·Canvas .board (now (canvas .exit)) ≡ put-board (C·Canvas .board (now (canvas .entry))) home ink ⌝ }
+{
+    canvas.put(home, ink)?;
+    Ok(())
+}
 
 // Lays a cell within the span.
 pub(crate) fn lay<S: Symmetry, C: Canvas>(
@@ -30,8 +40,7 @@ pub(crate) fn lay<S: Symmetry, C: Canvas>(
     if clash(found.kinds, mark.ink) {
         return Err(LayRefused::Clash);
     }
-    canvas.put(found.home, tint(found.kinds, mark.ink))?;
-    Ok(())
+    put_home(canvas, found.home, tint(found.kinds, mark.ink))
 }
 
 // Lays the cells of a line within the span, in order until one stops, and counts those that it laid.
