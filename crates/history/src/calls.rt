@@ -1,6 +1,7 @@
 // The calls of a history and their answers, as data. What a sheet does not allow cannot be written.
 ghost use mathlib.Core.Path.{_≡_};
 ghost use Rattle.std.specs.declared.option.Option.the-variants.{None};
+ghost use Rattle.history.specs.Passed.{passed};
 use plane::cell::Cell;
 use plane::fold::FoldRefused;
 use sheet::refusal::StrokeStopped;
@@ -78,4 +79,11 @@ impl Viewed {
     {
         Viewed { call, answer: None }
     }
+}
+
+// The calls on the closed sheet of a history that does not close: there are none.
+pub fn left_open<'a>() -> Option<&'a mut [Viewed]>
+    ensures { λ r. ⌜ passed r ≡ None ⌝ }
+{
+    Option::None
 }

@@ -132,13 +132,9 @@ pub(crate) fn draw<S: Symmetry, C: Canvas>(
 {
     match call {
         Drawing::Dot { at: cell, ink } => Answer::Stroked(sheet.dot(symmetry, canvas, cell, ink)),
-        Drawing::Line { from, to, ink } => Answer::Stroked(sheet.line(
-            symmetry,
-            canvas,
-            from,
-            to,
-            ink,
-        )),
+        Drawing::Line { from, to, ink } => {
+            Answer::Stroked(sheet.line(symmetry, canvas, from, to, ink))
+        }
         Drawing::Look(look) => look_open(sheet, symmetry, canvas, palette, look, output, at),
     }
 }
