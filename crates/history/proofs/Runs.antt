@@ -4,12 +4,10 @@ use mathlib.Core.Bool.{Bool}
 use mathlib.Core.List.{List, [], _∷_, _++_}
 use Prim.Native.Nat.{ℕ, _+_, _≤_, _<_}
 use native.Mathlib.Omega.{arith}
-use lib.ListN.{length, take, drop, set}
+use lib.ListN.{length, take, set}
 use Rattle.std.proofs.shelf.Lists.{take-all, take-more-set}
-use Rattle.std.specs.declared.option.Option.{Option}
 use Rattle.std.specs.declared.option.Option.the-variants.{Some, None}
 use Rattle.plane.specs.declared.cell.Cell.{Cell}
-use Rattle.plane.specs.Cells.{Within}
 use Rattle.plane.specs.Meaning.{Meaning}
 use Rattle.canvas.specs.Board.{Board, cleared}
 use Rattle.views.specs.Shows.{shown-ink}
@@ -23,10 +21,10 @@ use Rattle.history.specs.declared.calls.Viewing.{Viewing}
 use Rattle.history.specs.declared.calls.Answer.{Answer}
 use Rattle.history.specs.declared.calls.Drawn.{Drawn}
 use Rattle.history.specs.declared.calls.Viewed.{Viewed}
-use Rattle.history.specs.Histories.{Lent, past, drawing-room, viewing-room, Draws, Views, DrawsAll, ViewsAll, Closing, Told}
+use Rattle.history.specs.Histories.{Lent, past, drawing-room, viewing-room, Draws, Views, DrawsAll, ViewsAll, Told}
 use Rattle.history.specs.Outright.{draw-answer, draw-strokes, draw-board, draw-output, view-answer, view-output}
 use Rattle.history.proofs.Parts.{past-on, front-front}
-use Rattle.history.proofs.Steps.{Reached, lending, Onward, Moved, stepping, seeing}
+use Rattle.history.proofs.Steps.{Reached, lending, Onward, stepping, seeing}
 
 -- one call more at the end
 draws-more : (s : Setting) (lent : Lent) (at mid : ℕ) (A B C : Page) (es : List Drawn) (e : Drawn) → DrawsAll s lent at A es mid B → Draws s lent mid B (e .call) (e .answer) C → DrawsAll s lent at A (es ++ (e ∷ [])) (past (length (lent .before)) mid (drawing-room (e .call))) C

@@ -15,14 +15,12 @@ use Rattle.plane.specs.Cells.{Within}
 use Rattle.lines.specs.Lines.{line-cells}
 use Rattle.sheet.specs.declared.refusal.StrokeStopped.{StrokeStopped}
 use Rattle.views.specs.declared.refusal.WindowRefused.{WindowRefused}
-use Rattle.sheet.specs.declared.sheet.Quote.{Quote}
 use Rattle.sheet.specs.Laying.{marked}
 use Rattle.ledger.specs.Ledgers.{Ledger}
 use Rattle.ledger.specs.Planes.{Shows, Fewest}
 use Rattle.ledger.specs.Feeding.{Setting}
 use Rattle.ledger.specs.Striking.{Page, blank, Strikes}
 use Rattle.ledger.specs.Looking.{ShowsAt, Paints}
-use Rattle.history.specs.declared.calls.Window.{Window}
 use Rattle.history.specs.declared.calls.Look.{Look}
 use Rattle.history.specs.declared.calls.Look.the-variants.{Show, Window as Windows}
 use Rattle.history.specs.declared.calls.Drawing.{Drawing}

@@ -6,7 +6,7 @@ use mathlib.Core.Logic.{inl, inr}
 use Prim.Native.Nat.{ℕ}
 use Rattle.std.proofs.shelf.Tests.{both-ways}
 use Rattle.std.specs.declared.option.Option.{Option}
-use Rattle.std.specs.declared.option.Option.the-variants.{Some, None}
+use Rattle.std.specs.declared.option.Option.the-variants.{Some}
 use Rattle.plane.specs.declared.cell.Cell.{Cell}
 use Rattle.plane.specs.Cells.{AllWithin}
 use Rattle.plane.specs.Operation.{xor}
@@ -17,7 +17,7 @@ use Rattle.canvas.specs.Inks.{counterpart}
 use Rattle.sheet.specs.declared.mark.Mark.{Mark}
 use Rattle.sheet.specs.declared.refusal.LayRefused.{LayRefused}
 use Rattle.sheet.specs.declared.refusal.LayRefused.the-variants.{Clash, Canvas}
-use Rattle.ledger.specs.Ledgers.{Ledger, Colours, tinted-mark}
+use Rattle.ledger.specs.Ledgers.{Ledger, Colours}
 use Rattle.ledger.specs.Feeding.{Setting, setting, Taken, Full, Clashes, Stops, Adds}
 use Rattle.ledger.proofs.Inks.{own-tinted, tinted-colours}
 use Rattle.ledger.proofs.Classes.{Goes, Classes}

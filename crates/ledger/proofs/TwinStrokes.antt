@@ -14,14 +14,12 @@ use Rattle.plane.specs.declared.cell.Cell.{Cell}
 use Rattle.plane.specs.Cells.{AllWithin}
 use Rattle.plane.specs.Meaning.{Meaning}
 use Rattle.canvas.specs.Inks.{top-ink}
-use Rattle.lines.specs.Lines.{top-length}
 use Rattle.sheet.specs.declared.mark.Mark.{Mark}
 use Rattle.sheet.specs.declared.refusal.LayRefused.{LayRefused}
 use Rattle.sheet.specs.declared.refusal.StrokeRefused.{StrokeRefused}
 use Rattle.sheet.specs.declared.refusal.StrokeRefused.the-variants.{TooManyStrokes, Ink, OffSpan, TooLong, Stopped}
 use Rattle.sheet.specs.declared.refusal.StrokeStopped.{StrokeStopped}
 use Rattle.sheet.specs.Strokes.{top-strokes, stroke-refusal, strokes-after}
-use Rattle.ledger.specs.Ledgers.{Ledger, tinted-mark}
 use Rattle.ledger.specs.Feeding.{Setting, setting, Adds}
 use Rattle.ledger.specs.Striking.{Page, Ends, Bars, Lays, answered, Strikes}
 use Rattle.ledger.proofs.Inks.{tinted-small, tinted-large}
