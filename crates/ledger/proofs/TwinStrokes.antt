@@ -1,5 +1,5 @@
 -- Twin strokes on twin pages answer alike and leave twin pages.
-use mathlib.Core.Path.{_≡_, refl, sym, ap, ap₂, _∙_, subst, subst₂}
+use mathlib.Core.Path.{_≡_, sym, ap, ap₂, _∙_, subst, subst₂}
 use mathlib.Core.Bool.{Bool, false}
 use mathlib.Core.List.{List, [], _∷_}
 use mathlib.Core.Logic.{inl, inr}
@@ -19,7 +19,7 @@ use Rattle.sheet.specs.declared.refusal.LayRefused.{LayRefused}
 use Rattle.sheet.specs.declared.refusal.StrokeRefused.{StrokeRefused}
 use Rattle.sheet.specs.declared.refusal.StrokeRefused.the-variants.{TooManyStrokes, Ink, OffSpan, TooLong, Stopped}
 use Rattle.sheet.specs.declared.refusal.StrokeStopped.{StrokeStopped}
-use Rattle.sheet.specs.Strokes.{top-strokes, stroke-refusal, strokes-after}
+use Rattle.sheet.specs.Strokes.{stroke-refusal, strokes-after}
 use Rattle.ledger.specs.Feeding.{Setting, setting, Adds}
 use Rattle.ledger.specs.Striking.{Page, Ends, Bars, Lays, answered, Strikes}
 use Rattle.ledger.proofs.Inks.{tinted-small, tinted-large}
