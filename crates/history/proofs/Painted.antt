@@ -1,8 +1,8 @@
 -- A window with its part of the palette and of the output, as the code cuts them.
-use mathlib.Core.Path.{_≡_, refl, sym, ap, ap₂, _∙_, subst}
+use mathlib.Core.Path.{_≡_, sym, ap, ap₂, _∙_}
 use mathlib.Core.List.{List}
 use mathlib.Core.Logic.{_⊎_, inl, inr}
-use Prim.Native.Nat.{ℕ, _+_, _-_, _≤_, _<_, min}
+use Prim.Native.Nat.{ℕ, _-_, _≤_, _<_, min}
 use native.Mathlib.Omega.{arith}
 use lib.IntN.{ℤ}
 use lib.ListN.{length, take, drop, length-take, length-drop}
@@ -13,7 +13,7 @@ use Rattle.std.proofs.shelf.Lists.{take-all}
 use Rattle.plane.specs.Meaning.{Meaning}
 use Rattle.canvas.specs.Board.{Board}
 use Rattle.views.specs.declared.refusal.WindowRefused.{WindowRefused}
-use Rattle.views.specs.Windows.{placed, window-answer, window-output}
+use Rattle.views.specs.Windows.{window-answer, window-output}
 use Rattle.views.proofs.Placing.{mid-placed}
 use Rattle.history.specs.declared.calls.Window.{Window}
 use Rattle.history.specs.declared.calls.Look.{Look}

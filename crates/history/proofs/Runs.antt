@@ -4,12 +4,10 @@ use mathlib.Core.Bool.{Bool}
 use mathlib.Core.List.{List, [], _∷_, _++_}
 use Prim.Native.Nat.{ℕ, _+_, _≤_, _<_}
 use native.Mathlib.Omega.{arith}
-use lib.ListN.{length, take, drop, set}
+use lib.ListN.{length, take, set}
 use Rattle.std.proofs.shelf.Lists.{take-all, take-more-set}
-use Rattle.std.specs.declared.option.Option.{Option}
 use Rattle.std.specs.declared.option.Option.the-variants.{Some, None}
 use Rattle.plane.specs.declared.cell.Cell.{Cell}
-use Rattle.plane.specs.Cells.{Within}
 use Rattle.plane.specs.Meaning.{Meaning}
 use Rattle.canvas.specs.Board.{Board, cleared}
 use Rattle.views.specs.Shows.{shown-ink}
@@ -23,10 +21,11 @@ use Rattle.history.specs.declared.calls.Viewing.{Viewing}
 use Rattle.history.specs.declared.calls.Answer.{Answer}
 use Rattle.history.specs.declared.calls.Drawn.{Drawn}
 use Rattle.history.specs.declared.calls.Viewed.{Viewed}
-use Rattle.history.specs.Histories.{Lent, past, drawing-room, viewing-room, Draws, Views, DrawsAll, ViewsAll, Closing, Told}
+use Rattle.history.specs.Histories.{Lent, past, drawing-room, viewing-room, Draws, Views, DrawsAll, ViewsAll, drawing-calls, Told}
 use Rattle.history.specs.Outright.{draw-answer, draw-strokes, draw-board, draw-output, view-answer, view-output}
 use Rattle.history.proofs.Parts.{past-on, front-front}
-use Rattle.history.proofs.Steps.{Reached, lending, Onward, Moved, stepping, seeing}
+use Rattle.history.proofs.Alone.{draws-all-one}
+use Rattle.history.proofs.Steps.{Reached, lending, Onward, stepping, seeing}
 
 -- one call more at the end
 draws-more : (s : Setting) (lent : Lent) (at mid : ℕ) (A B C : Page) (es : List Drawn) (e : Drawn) → DrawsAll s lent at A es mid B → Draws s lent mid B (e .call) (e .answer) C → DrawsAll s lent at A (es ++ (e ∷ [])) (past (length (lent .before)) mid (drawing-room (e .call))) C
@@ -127,6 +126,9 @@ module _ (m : Meaning) (frame : Cell → Bool) (seats : ℕ) (palette before : L
         let p2 : Beyond es (take j xs ++ (entry answer ∷ [])) held strokes b at′ out′ = subst₂ (λ (k : ℕ) (o : List ℕ). Beyond es (take j xs ++ (entry answer ∷ [])) held strokes b k o) (sym et) (sym eo) p1 in
         subst (λ vs. Beyond es vs held strokes b at′ out′) (sym (take-more-set xs j (entry answer) h)) p2
 
+    alone : (es : List Drawn) (end : ℕ) (A : Page) (out : List ℕ) → DrawsAll here (lending palette before out) 0 (blank seats) es end A → (lent′ : Lent) (drawing′ : List Drawn) (end′ : ℕ) (B : Page) → drawing-calls es ≡ drawing-calls drawing′ → DrawsAll here lent′ 0 (blank seats) drawing′ end′ B → A ≡ B
+    alone es end A out d lent′ drawing′ end′ B c k = draws-all-one here (lending palette before out) lent′ es drawing′ 0 0 end end′ (blank seats) A B c d k
+
     -- a sheet that stays open
     pub told-open : (es : List Drawn) (strokes : ℕ) (b : Board) (at : ℕ) (out : List ℕ) → Along es strokes b at out → Told here seats (lending palette before out) es None (shown-ink m b)
     told-open es strokes b at out a = record {
@@ -134,6 +136,7 @@ module _ (m : Meaning) (frame : Cell → Bool) (seats : ℕ) (palette before : L
       middle = at;
       end = at;
       drawn = a .drawn out (a .reached .long) refl;
+      alone = alone es at (a .page) out (a .drawn out (a .reached .long) refl);
       viewed = refl;
       shows = λ q w. shows m cl (a .page .ledger) (b .inks) (a .keeps .follows) q w;
       rest = a .reached .rest;
@@ -147,6 +150,7 @@ module _ (m : Meaning) (frame : Cell → Bool) (seats : ℕ) (palette before : L
       middle = a .middle;
       end = at;
       drawn = a .drawn out (a .reached .long) refl;
+      alone = alone es (a .middle) (a .page) out (a .drawn out (a .reached .long) refl);
       viewed = a .viewed out (a .reached .long) refl;
       shows = λ q w. shows m cl (a .page .ledger) (b .inks) (a .keeps .follows) q w;
       rest = a .reached .rest;

@@ -37,8 +37,8 @@ use Rattle.history.specs.declared.calls.Answer.{Answer}
 use Rattle.history.specs.declared.calls.Answer.the-variants.{Stroked, Shown, Windowed, Quoted}
 use Rattle.history.specs.declared.calls.Drawn.{Drawn}
 use Rattle.history.specs.declared.calls.Viewed.{Viewed}
-use Rattle.history.specs.Histories.{Lent, part, past, look-room, drawing-room, viewing-room, Seen, Draws, Views, DrawsAll, ViewsAll, Closing, Told}
-use Rattle.history.specs.Twins.{TwinCall, TwinCalls, Agree, TwinsAgree, drawing-calls, drawing-answers, viewing-calls, viewing-answers}
+use Rattle.history.specs.Histories.{Lent, part, past, look-room, drawing-room, viewing-room, Seen, Draws, Views, DrawsAll, ViewsAll, Closing, drawing-calls, Told}
+use Rattle.history.specs.Twins.{TwinCall, TwinCalls, Agree, TwinsAgree, drawing-answers, viewing-calls, viewing-answers}
 use Rattle.history.proofs.Parts.{part-long, part-rest}
 
 module _ (m : Meaning) (frame : Cell → Bool) (cl : Classes m) (lent lent′ : Lent) (palettes : lent .palette ≡ lent′ .palette) (lengths : length (lent .before) ≡ length (lent′ .before)) where

@@ -3,7 +3,7 @@
 --     part    the bytes of an output that a window is given: so many from a place on, fewer where the output ends
 --     told    every answer and every byte is what the ledger tells
 use mathlib.Core.Path.{_≡_}
-use mathlib.Core.List.{List, [], _∷_}
+use mathlib.Core.List.{List, [], _∷_, map}
 use Prim.Native.Nat.{ℕ, _+_, min}
 use lib.ListN.{length, take, drop}
 use Rattle.std.specs.declared.option.Option.{Option}
@@ -15,14 +15,12 @@ use Rattle.plane.specs.Cells.{Within}
 use Rattle.lines.specs.Lines.{line-cells}
 use Rattle.sheet.specs.declared.refusal.StrokeStopped.{StrokeStopped}
 use Rattle.views.specs.declared.refusal.WindowRefused.{WindowRefused}
-use Rattle.sheet.specs.declared.sheet.Quote.{Quote}
 use Rattle.sheet.specs.Laying.{marked}
 use Rattle.ledger.specs.Ledgers.{Ledger}
 use Rattle.ledger.specs.Planes.{Shows, Fewest}
 use Rattle.ledger.specs.Feeding.{Setting}
 use Rattle.ledger.specs.Striking.{Page, blank, Strikes}
 use Rattle.ledger.specs.Looking.{ShowsAt, Paints}
-use Rattle.history.specs.declared.calls.Window.{Window}
 use Rattle.history.specs.declared.calls.Look.{Look}
 use Rattle.history.specs.declared.calls.Look.the-variants.{Show, Window as Windows}
 use Rattle.history.specs.declared.calls.Drawing.{Drawing}
@@ -91,6 +89,9 @@ abbrev pub Closing : Setting → Lent → ℕ → Page → Option (List Viewed) 
 Closing s lent at A None end = end ≡ at
 Closing s lent at A (Some vs) end = ViewsAll s lent at A vs end
 
+abbrev pub drawing-calls : List Drawn → List Drawing
+drawing-calls = map (λ e. e .call)
+
 -- a history on a canvas with so many seats, at the end of which each cell shows an ink
 pub record Told (s : Setting) (seats : ℕ) (lent : Lent) (drawing : List Drawn) (viewing : Option (List Viewed)) (ink : Cell → ℕ) : Type 0 where
   -- the page at the end, with the ledger of all calls, and the places where the parts of the output end
@@ -98,6 +99,8 @@ pub record Told (s : Setting) (seats : ℕ) (lent : Lent) (drawing : List Drawn)
   pub middle : ℕ
   pub end : ℕ
   pub drawn : DrawsAll s lent 0 (blank seats) drawing middle page
+  -- no other page comes of these calls, whatever they are said to have answered
+  pub alone : (lent′ : Lent) (drawing′ : List Drawn) (end′ : ℕ) (B : Page) → drawing-calls drawing ≡ drawing-calls drawing′ → DrawsAll s lent′ 0 (blank seats) drawing′ end′ B → page ≡ B
   pub viewed : Closing s lent middle page viewing end
   -- every cell in the span shows at the end what the ledger tells
   pub shows : (q : Cell) → Within (s .span) q → Shows (s .operations) (page .ledger) q (ink q)

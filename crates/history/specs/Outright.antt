@@ -1,6 +1,6 @@
 -- What each call of a history answers and leaves, outright.
 --     at    the place in the output where the call's part begins
-use mathlib.Core.List.{List, [], _∷_}
+use mathlib.Core.List.{List}
 use Prim.Native.Nat.{ℕ}
 use lib.ListN.{take}
 use Rattle.plane.specs.Meaning.{Meaning}
@@ -8,7 +8,7 @@ use Rattle.canvas.specs.Board.{Board}
 use Rattle.views.specs.Shows.{shown}
 use Rattle.views.specs.Windows.{window-answer, window-output, placed}
 use Rattle.sheet.specs.Laying.{marked}
-use Rattle.sheet.specs.Strokes.{Stroked, dotted, lined, stroke-answer}
+use Rattle.sheet.specs.Strokes.{dotted, lined, stroke-answer}
 use Rattle.history.specs.declared.calls.Look.{Look}
 use Rattle.history.specs.declared.calls.Look.the-variants.{Show, Window as Windows}
 use Rattle.history.specs.declared.calls.Drawing.{Drawing}

@@ -17,7 +17,7 @@ use Rattle.history.specs.declared.calls.Viewing.{Viewing}
 use Rattle.history.specs.declared.calls.Answer.{Answer}
 use Rattle.history.specs.declared.calls.Drawn.{Drawn}
 use Rattle.history.specs.declared.calls.Viewed.{Viewed}
-use Rattle.history.specs.Histories.{Lent, Told}
+use Rattle.history.specs.Histories.{Lent, drawing-calls, Told}
 
 -- a dot within the span may give way to an image of it within the span, with the counterpart ink if the operation is odd
 abbrev pub TwinCall : Setting → Drawing → Drawing → Type 0
@@ -32,9 +32,6 @@ TwinCalls s [] [] = Unit {0}
 TwinCalls s [] (d ∷ ds) = ⊥
 TwinCalls s (c ∷ cs) [] = ⊥
 TwinCalls s (c ∷ cs) (d ∷ ds) = TwinCall s c d × TwinCalls s cs ds
-
-abbrev pub drawing-calls : List Drawn → List Drawing
-drawing-calls = map (λ e. e .call)
 
 abbrev pub drawing-answers : List Drawn → List (Option Answer)
 drawing-answers = map (λ e. e .answer)

@@ -2,10 +2,8 @@
 use mathlib.Core.Path.{_≡_, sym, _∙_, subst}
 use mathlib.Core.List.{[], _∷_}
 use mathlib.Core.Logic.{_↔_, inl, inr}
-use Prim.Native.Nat.{ℕ}
 use Rattle.plane.specs.declared.cell.Cell.{Cell}
 use Rattle.plane.specs.Cells.{Within}
-use Rattle.plane.specs.Operation.{Operation}
 use Rattle.plane.specs.Meaning.{Meaning}
 use Rattle.plane.specs.Laws.{Neutral}
 use Rattle.canvas.specs.Inks.{counterpart}

@@ -1,5 +1,5 @@
 -- A board that keeps a ledger: it follows it, has the laws of a board, and has this frame and as many seats.
-use mathlib.Core.Path.{_≡_, refl, sym, ap, _∙_, subst}
+use mathlib.Core.Path.{_≡_, refl}
 use mathlib.Core.Bool.{Bool}
 use mathlib.Core.List.{List, []}
 use mathlib.Core.Logic.{_↔_}

@@ -1,13 +1,13 @@
 -- Laying a cell keeps the board and the ledger together: it stops as the ledger says, or the board keeps the ledger with the cell laid.
-use mathlib.Core.Path.{_≡_, refl, sym, ap, _∙_, subst}
-use mathlib.Core.Bool.{Bool, true, false, cond, _&&_, not}
+use mathlib.Core.Path.{_≡_, refl, sym, ap, _∙_}
+use mathlib.Core.Bool.{Bool, true, false, cond, not}
 use mathlib.Core.List.{List, [], _∷_}
 use mathlib.Core.Logic.{_⊎_, inl, inr}
 use Prim.Native.Nat.{ℕ, suc, _+_, _≤_, _<_}
 use native.Mathlib.Omega.{arith}
 use lib.ListN.{length}
 use lib.Dec.{eqb}
-use Rattle.std.proofs.shelf.Tests.{cases-lt, cases-bool, cases-eq, eq-eqb, ne-eqb, eqb-false, and-from, and-parts, not-true, not-from-false, true≢false, both-ways}
+use Rattle.std.proofs.shelf.Tests.{cases-lt, cases-eq, ne-eqb, eqb-false, and-from, and-parts, not-true, not-from-false, both-ways}
 use Rattle.std.specs.declared.option.Option.{Option}
 use Rattle.std.specs.declared.option.Option.the-variants.{Some, None}
 use Rattle.plane.specs.declared.cell.Cell.{Cell}
@@ -24,11 +24,10 @@ use Rattle.sheet.specs.declared.refusal.LayRefused.{LayRefused}
 use Rattle.sheet.specs.declared.refusal.LayRefused.the-variants.{Clash, Canvas}
 use Rattle.views.specs.Tints.{neutral}
 use Rattle.sheet.specs.Laying.{home-ink, clashes, by-canvas, lay-refusal, lay-board, lay-all, lay-next, Laid}
-use Rattle.ledger.specs.Ledgers.{Entry, Ledger, Colours}
+use Rattle.ledger.specs.Ledgers.{Ledger}
 use Rattle.ledger.specs.Feeding.{Setting, setting, Taken, Clashes, Stops, Adds}
 use Rattle.ledger.proofs.Inks.{tinted-small, tinted-colours, colours-tinted}
 use Rattle.ledger.proofs.Classes.{flips, Classes}
-use Rattle.ledger.proofs.Homes.{Follows}
 use Rattle.ledger.proofs.Puts.{Put, outside, full, done, put-cases}
 use Rattle.ledger.proofs.Keeping.{Keeps, taken-iff, is-full, not-full}
 

@@ -12,6 +12,7 @@ pub mod Keeping
 pub mod Lays
 pub mod Strokes
 pub mod Sights
+pub mod Single
 pub mod Twins
 pub mod TwinStops
 pub mod TwinStrokes

@@ -1,28 +1,28 @@
 -- A show and a window on a board that keeps a ledger answer and write what the ledger tells.
-use mathlib.Core.Path.{_≡_, refl, sym, ap, _∙_, subst}
+use mathlib.Core.Path.{_≡_, refl, sym, ap}
 use mathlib.Core.Bool.{Bool, true, false, cond, _||_, not}
 use mathlib.Core.List.{List, [], _∷_, _++_}
 use mathlib.Core.Logic.{inl, inr}
-use Prim.Native.Nat.{ℕ, _+_, _*_, _≤_, _<_}
+use Prim.Native.Nat.{ℕ, _≤_, _<_}
 use native.Mathlib.Omega.{arith}
 use lib.IntN.{ℤ, pos, natAbs}
 use lib.Signed.{ltZ, _≤ℤ_}
 use lib.Dec.{eqb, ltb}
-use lib.ListN.{length, length-append}
+use lib.ListN.{length}
 use borrow.Author.Differences.{ints}
 use Rattle.std.proofs.shelf.Tests.{both-ways, or-parts, or-from, eqb-true, eqb-false, ltb-true, ltb-false}
 use Rattle.std.specs.declared.option.Option.{Option}
 use Rattle.std.specs.declared.option.Option.the-variants.{Some, None}
-use Rattle.std.specs.declared.result.Result.the-variants.{Ok, Err}
+use Rattle.std.specs.declared.result.Result.the-variants.{Ok}
 use Rattle.plane.specs.declared.cell.Cell.{Cell}
-use Rattle.plane.specs.Cells.{AllWithin, Within, all-inside, inside}
+use Rattle.plane.specs.Cells.{AllWithin, all-inside, inside}
 use Rattle.plane.specs.Meaning.{Meaning}
 use Rattle.plane.proofs.Folding.{inside-within, outside}
 use Rattle.canvas.specs.Board.{Board}
 use Rattle.views.specs.declared.refusal.WindowRefused.{WindowRefused}
 use Rattle.views.specs.declared.refusal.WindowRefused.the-variants.{Side, OffSpan, Palette, Output}
 use Rattle.views.specs.Shows.{shown, shown-if, shown-ink}
-use Rattle.views.specs.Windows.{window-cells, header, colour, pixels, picture-size, wrong-side, window-refusal, windowed, window-answer, written-over, unless-refused, window-output}
+use Rattle.views.specs.Windows.{window-cells, header, pixels, picture-size, wrong-side, window-refusal, windowed, window-answer, written-over, unless-refused, window-output}
 use Rattle.views.proofs.Cells.{all-within, within-all}
 use Rattle.views.proofs.Pixels.{picture-length}
 use Rattle.ledger.specs.Ledgers.{Ledger}

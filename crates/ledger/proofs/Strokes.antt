@@ -11,7 +11,7 @@ use Rattle.std.proofs.shelf.Tests.{and-parts, and-from, both-ways, leb-true, le
 use Rattle.std.specs.declared.option.Option.{Option}
 use Rattle.std.specs.declared.option.Option.the-variants.{Some, None}
 use Rattle.plane.specs.declared.cell.Cell.{Cell}
-use Rattle.plane.specs.Cells.{AllWithin, Within, inside}
+use Rattle.plane.specs.Cells.{AllWithin, inside}
 use Rattle.plane.specs.Meaning.{Meaning}
 use Rattle.plane.proofs.Folding.{inside-within, within-inside}
 use Rattle.canvas.specs.Inks.{top-ink}

@@ -4,9 +4,8 @@ use mathlib.Core.Bool.{Bool, true, false}
 use mathlib.Core.List.{List, [], _∷_}
 use mathlib.Core.Logic.{inl, inr}
 use Prim.Native.Nat.{ℕ}
-use Rattle.std.proofs.shelf.Tests.{both-ways}
 use Rattle.std.specs.declared.option.Option.{Option}
-use Rattle.std.specs.declared.option.Option.the-variants.{Some, None}
+use Rattle.std.specs.declared.option.Option.the-variants.{Some}
 use Rattle.plane.specs.declared.cell.Cell.{Cell}
 use Rattle.plane.specs.Cells.{AllWithin}
 use Rattle.plane.specs.Operation.{xor}
@@ -17,10 +16,11 @@ use Rattle.canvas.specs.Inks.{counterpart}
 use Rattle.sheet.specs.declared.mark.Mark.{Mark}
 use Rattle.sheet.specs.declared.refusal.LayRefused.{LayRefused}
 use Rattle.sheet.specs.declared.refusal.LayRefused.the-variants.{Clash, Canvas}
-use Rattle.ledger.specs.Ledgers.{Ledger, Colours, tinted-mark}
+use Rattle.ledger.specs.Ledgers.{Ledger, Colours}
 use Rattle.ledger.specs.Feeding.{Setting, setting, Taken, Full, Clashes, Stops, Adds}
 use Rattle.ledger.proofs.Inks.{own-tinted, tinted-colours}
 use Rattle.ledger.proofs.Classes.{Goes, Classes}
+use Rattle.ledger.proofs.Single.{stops-one}
 use Rattle.ledger.proofs.Twins.{Pair, Ledgers, flipped, turned, colours-twin, pair-home, home-shared, latest-twin}
 
 around : (a : Bool) → xor (xor a true) a ≡ true
@@ -55,22 +55,6 @@ module _ (m : Meaning) (frame : Cell → Bool) (cl : Classes m) where
       let at = pair-home m cl p q i j a w in
       (calm-twin p q i j a w (h .0), ap frame (sym at) ∙ h .1, subst (λ (k : Mark). Colours k) (sym (w .marks)) (tinted-colours a (i .ink) (h .2)), λ t. h .3 (taken-twin M L (turned m cl L M e) (m .home p) (subst (λ z. Taken (m .home) M z) (sym at) t)), full-twin L M seats e (h .4))
 
-  -- at most one refusal stops a cell
-  pub stops-one : (seats : ℕ) (L : Ledger) (p : Cell) (i : Mark) (r t : LayRefused) → Stops here seats L p i r → Stops here seats L p i t → r ≡ t
-  stops-one seats L p i Clash Clash h k = refl
-  stops-one seats L p i Clash (Canvas Ink) h k = absurd k
-  stops-one seats L p i Clash (Canvas Frame) h k = absurd (k .0 h)
-  stops-one seats L p i Clash (Canvas Seats) h k = absurd (k .0 h)
-  stops-one seats L p i (Canvas Ink) t h k = absurd h
-  stops-one seats L p i (Canvas Frame) Clash h k = absurd (h .0 k)
-  stops-one seats L p i (Canvas Frame) (Canvas Ink) h k = absurd k
-  stops-one seats L p i (Canvas Frame) (Canvas Frame) h k = refl
-  stops-one seats L p i (Canvas Frame) (Canvas Seats) h k = absurd (both-ways (frame (m .home p)) (h .1) (k .1))
-  stops-one seats L p i (Canvas Seats) Clash h k = absurd (h .0 k)
-  stops-one seats L p i (Canvas Seats) (Canvas Ink) h k = absurd k
-  stops-one seats L p i (Canvas Seats) (Canvas Frame) h k = absurd (both-ways (frame (m .home p)) (k .1) (h .1))
-  stops-one seats L p i (Canvas Seats) (Canvas Seats) h k = refl
-
   -- lists of cells that operations of one parity carry onto one another, place by place
   abbrev pub Rows : Bool → Mark → Mark → List Cell → List Cell → Type 0
   Rows a i j [] [] = Unit {0}
@@ -88,7 +72,7 @@ module _ (m : Meaning) (frame : Cell → Bool) (cl : Classes m) where
   adds-twin seats a i j [] (q ∷ qs) w L M L′ M′ o u e h k = absurd w
   adds-twin seats a i j (p ∷ ps) [] w L M L′ M′ o u e h k = absurd w
   adds-twin seats a i j (p ∷ ps) (q ∷ qs) w L M L′ M′ o u e (inl h) (inl k) =
-      let r = stops-one seats M q j (h .0) (k .0) (stops-twin seats L M e p q i j a (w .0) (h .0) (h .1)) (k .1) in
+      let r = stops-one here seats M q j (h .0) (k .0) (stops-twin seats L M e p q i j a (w .0) (h .0) (h .1)) (k .1) in
       (subst₂ (Ledgers m) (sym (h .2)) (sym (k .2)) e, h .3 ∙ ap (λ (z : LayRefused). Some z) r ∙ sym (k .3))
   adds-twin seats a i j (p ∷ ps) (q ∷ qs) w L M L′ M′ o u e (inl h) (inr k) = absurd (k .0 (h .0) (stops-twin seats L M e p q i j a (w .0) (h .0) (h .1)))
   adds-twin seats a i j (p ∷ ps) (q ∷ qs) w L M L′ M′ o u e (inr h) (inl k) = absurd (h .0 (k .0) (stops-twin seats M L (turned m cl L M e) q p j i a (flipped m cl p q i j a (w .0)) (k .0) (k .1)))

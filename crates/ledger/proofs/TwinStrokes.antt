@@ -1,5 +1,5 @@
 -- Twin strokes on twin pages answer alike and leave twin pages.
-use mathlib.Core.Path.{_≡_, refl, sym, ap, ap₂, _∙_, subst, subst₂}
+use mathlib.Core.Path.{_≡_, sym, ap, ap₂, _∙_, subst, subst₂}
 use mathlib.Core.Bool.{Bool, false}
 use mathlib.Core.List.{List, [], _∷_}
 use mathlib.Core.Logic.{inl, inr}
@@ -14,18 +14,17 @@ use Rattle.plane.specs.declared.cell.Cell.{Cell}
 use Rattle.plane.specs.Cells.{AllWithin}
 use Rattle.plane.specs.Meaning.{Meaning}
 use Rattle.canvas.specs.Inks.{top-ink}
-use Rattle.lines.specs.Lines.{top-length}
 use Rattle.sheet.specs.declared.mark.Mark.{Mark}
 use Rattle.sheet.specs.declared.refusal.LayRefused.{LayRefused}
 use Rattle.sheet.specs.declared.refusal.StrokeRefused.{StrokeRefused}
 use Rattle.sheet.specs.declared.refusal.StrokeRefused.the-variants.{TooManyStrokes, Ink, OffSpan, TooLong, Stopped}
 use Rattle.sheet.specs.declared.refusal.StrokeStopped.{StrokeStopped}
-use Rattle.sheet.specs.Strokes.{top-strokes, stroke-refusal, strokes-after}
-use Rattle.ledger.specs.Ledgers.{Ledger, tinted-mark}
+use Rattle.sheet.specs.Strokes.{stroke-refusal, strokes-after}
 use Rattle.ledger.specs.Feeding.{Setting, setting, Adds}
 use Rattle.ledger.specs.Striking.{Page, Ends, Bars, Lays, answered, Strikes}
 use Rattle.ledger.proofs.Inks.{tinted-small, tinted-large}
 use Rattle.ledger.proofs.Classes.{Classes}
+use Rattle.ledger.proofs.Single.{bars-one}
 use Rattle.ledger.proofs.Strokes.{Barred, barring}
 use Rattle.ledger.proofs.Twins.{Pair, Ledgers, as-long, flipped}
 use Rattle.ledger.proofs.TwinStops.{Rows, own-rows, adds-twin}
@@ -35,33 +34,6 @@ pub record Pages (m : Meaning) (A B : Page) : Type 0 where
   pub ledgers : Ledgers m (A .ledger) (B .ledger)
   pub strokes : A .strokes ≡ B .strokes
   pub seats : A .seats ≡ B .seats
-
-apart : (x y : ℕ) → x < y → y ≤ x → ⊥
-apart x y h k = omega arith
-
--- at most one refusal bars a stroke
-bars-one : (s : Setting) (n : ℕ) (mark : Mark) (from to : Cell) (cells : List Cell) (r t : StrokeRefused) → Bars s n mark from to cells r → Bars s n mark from to cells t → r ≡ t
-bars-one s n mark from to cells TooManyStrokes TooManyStrokes h k = refl
-bars-one s n mark from to cells TooManyStrokes Ink h k = absurd (apart n top-strokes (k .0) h)
-bars-one s n mark from to cells TooManyStrokes OffSpan h k = absurd (apart n top-strokes (k .0) h)
-bars-one s n mark from to cells TooManyStrokes TooLong h k = absurd (apart n top-strokes (k .0) h)
-bars-one s n mark from to cells TooManyStrokes (Stopped why) h k = absurd k
-bars-one s n mark from to cells Ink TooManyStrokes h k = absurd (apart n top-strokes (h .0) k)
-bars-one s n mark from to cells Ink Ink h k = refl
-bars-one s n mark from to cells Ink OffSpan h k = absurd (apart top-ink (mark .ink) (h .1) (k .1))
-bars-one s n mark from to cells Ink TooLong h k = absurd (apart top-ink (mark .ink) (h .1) (k .1))
-bars-one s n mark from to cells Ink (Stopped why) h k = absurd k
-bars-one s n mark from to cells OffSpan TooManyStrokes h k = absurd (apart n top-strokes (h .0) k)
-bars-one s n mark from to cells OffSpan Ink h k = absurd (apart top-ink (mark .ink) (k .1) (h .1))
-bars-one s n mark from to cells OffSpan OffSpan h k = refl
-bars-one s n mark from to cells OffSpan TooLong h k = absurd (h .2 (k .2))
-bars-one s n mark from to cells OffSpan (Stopped why) h k = absurd k
-bars-one s n mark from to cells TooLong TooManyStrokes h k = absurd (apart n top-strokes (h .0) k)
-bars-one s n mark from to cells TooLong Ink h k = absurd (apart top-ink (mark .ink) (k .1) (h .1))
-bars-one s n mark from to cells TooLong OffSpan h k = absurd (k .2 (h .2))
-bars-one s n mark from to cells TooLong TooLong h k = refl
-bars-one s n mark from to cells TooLong (Stopped why) h k = absurd k
-bars-one s n mark from to cells (Stopped why) t h k = absurd h
 
 module _ (m : Meaning) (frame : Cell → Bool) (cl : Classes m) where
   abbrev here : Setting

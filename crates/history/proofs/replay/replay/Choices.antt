@@ -5,7 +5,7 @@ use Prim.Native.Nat.{ℕ, _≤_}
 use lib.ListN.{length, take}
 use Rattle.plane.specs.declared.cell.Cell.{Cell}
 use Rattle.history.specs.declared.calls.Viewed.{Viewed}
-use Rattle.history.specs.Twins.{drawing-calls}
+use Rattle.history.specs.Histories.{drawing-calls}
 use Rattle.history.proofs.Runs.{Along, Beyond}
 use Rattle.history.proofs.replay.replay.Given as given
 
