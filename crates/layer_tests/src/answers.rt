@@ -1,5 +1,4 @@
 // What a case compares: plain numbers.
-#[cfg(test)]
 use layers::layer::Layer;
 use layers::matrix::Matrix;
 use layers::vector::Vector;
