@@ -1,4 +1,6 @@
 // Times a sparse canvas of 65,536 seats: fills it in random order, then looks each cell up. The times go to standard error.
+#![tactic(auto)]
+
 use canvas::canvas::Canvas;
 use plane::cell::Cell;
 use sparse::record::CellRecord;

@@ -1,4 +1,6 @@
 // Times windows of 128 by 128 under p6mm with a repeat of 96 by 96, over a dense canvas that holds lines and dots. The time goes to standard error.
+#![tactic(auto)]
+
 use anyhow::anyhow;
 use canvas::canvas::Canvas;
 use dense::dense::DenseCanvas;

@@ -1,4 +1,6 @@
 // Tests of the canvases and the dye book.
+#![tactic(auto)]
+
 #[cfg(test)]
 mod books;
 #[cfg(test)]

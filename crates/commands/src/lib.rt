@@ -1,4 +1,6 @@
 // Commands, as a line of text says them: words and numbers with one blank between.
+#![tactic(auto)]
+
 pub mod call;
 pub mod command;
 mod fields;

@@ -1,4 +1,6 @@
 // Reads commands from standard input, one a line, and prints each with its answer.
+#![tactic(auto)]
+
 ghost use Rattle.std.specs.Prelude.{◌≤◌, length};
 
 use answer::Answer;

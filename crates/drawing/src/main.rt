@@ -1,4 +1,6 @@
 // Drawing jobs: commands from standard input, answers to standard output.
+#![tactic(auto)]
+
 use jobs::run::Console;
 use std::io;
 

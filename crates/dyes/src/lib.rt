@@ -1,4 +1,6 @@
 // The dye book: names and their inks, in a table that the caller lends.
+#![tactic(auto)]
+
 pub mod book;
 pub mod name;
 pub mod record;

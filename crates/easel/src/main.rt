@@ -1,5 +1,7 @@
 // Shows two canvases at work. Each line of the input is a cell and an ink; it is put on a dense and on a sparse canvas.
 // Tells what each refuses, what each holds at the end, and where the two differ.
+#![tactic(auto)]
+
 mod request;
 mod trial;
 

@@ -1,9 +1,9 @@
 -- The laws of specs/Floor.antt.
-use Rattle.std.proofs.Common.{◌≡◌, ℕ, zero, suc, ◌+◌, ◌-◌, ◌*◌, ◌/◌, ◌%◌, ◌<◌, ◌≤◌, List, [], ◌∷◌, ℤ, pos, negsuc, ◌+ℤ◌, ◌-ℤ◌, ◌*ℤ◌, neg_ℤ, nat_abs, sym, refl, ap, ◌∙◌, ap₂, mod-lt, arith}
+use Rattle.std.proofs.Common.{◌≡◌, ℕ, zero, suc, ◌<◌, ◌≤◌, [], ◌∷◌, ℤ, pos, negsuc, ◌+ℤ◌, ◌-ℤ◌, ◌*ℤ◌, neg_ℤ, nat_abs, sym, refl, ap, mod-lt, arith}
 use native.Mathlib.Nat.{mod-add-div'}
-use borrow.Author.Differences.{ints, product_is, up, down}
+use borrow.Author.Differences.{ints}
 use Rattle.ints.specs.Floor.{floor_mod, floor_div, Splits, Cong, FloorExists, FloorUnique, FloorCong}
-use Rattle.ints.proofs.Ring.{E, var, lit, ◌⊕◌, ◌⊖◌, ◌⊗◌, neg, ring, ring_by, hyp, Hyp}
+use Rattle.ints.proofs.Ring.{var, lit, ◌⊕◌, ◌⊖◌, ◌⊗◌, neg, ring, ring_by, hyp}
 use Rattle.std.specs.Int.{int_rem_euclid, int_div_euclid}
 
 pub floor_lt : (x : ℤ) (p : ℕ) → 1 ≤ p → floor_mod x p < p

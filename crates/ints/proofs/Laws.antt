@@ -1,6 +1,6 @@
 -- The ring laws of ℤ that lib.IntN lacks: the product is associative and distributes over the sum, the difference and the negation.
 -- `omega` reads an integer z as `up z - down z`, and a product of two integers as two sums of products (`product_is`). It multiplies no fact by a factor, so each proof hands it the facts that it needs, multiplied. Assumes nothing.
-use Rattle.std.proofs.Common.{◌≡◌, ℕ, zero, suc, ◌+◌, ◌*◌, ◌<◌, ◌≤◌, ◌⊎◌, ℤ, pos, negsuc, ◌+ℤ◌, ◌-ℤ◌, ◌*ℤ◌, neg_ℤ, nat_abs, sym, refl, ap, ◌∙◌, inl, inr, mul-le-mul_right, mul-le-mul_left, arith}
+use Rattle.std.proofs.Common.{◌≡◌, ℕ, zero, suc, ◌+◌, ◌*◌, ◌<◌, ◌≤◌, ◌⊎◌, ℤ, pos, negsuc, ◌+ℤ◌, ◌-ℤ◌, ◌*ℤ◌, neg_ℤ, nat_abs, sym, refl, ap, ◌∙◌, inl, inr, arith}
 use lib.IntN.{neg_ℤ-neg_ℤ, neg_ℤ-+ℤ, *ℤ_comm, +ℤ_comm, +ℤ_assoc}
 use borrow.Author.Differences.{up, down, ints, sum_is_lem, product_is, neg_is, abs_is, same_in, same_out}
 

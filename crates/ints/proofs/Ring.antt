@@ -4,10 +4,10 @@
 --     ring ρ a b tt       : den ρ a ≡ den ρ b, where a and b are one polynomial
 --     ring-by ρ hs a b tt : the same from equations. hs is a list of `hyp q l r h` with h : den ρ l ≡ den ρ r, and a - b is the sum of q * (l - r)
 -- Assumes nothing.
-use Rattle.std.proofs.Common.{◌≡◌, ℕ, zero, suc, List, [], ◌∷◌, ℤ, pos, negsuc, ◌+ℤ◌, ◌-ℤ◌, ◌*ℤ◌, neg_ℤ, sym, refl, ap, ◌∙◌, subst, ap₂, arith}
+use Rattle.std.proofs.Common.{◌≡◌, ℕ, zero, suc, List, [], ◌∷◌, ℤ, pos, negsuc, ◌+ℤ◌, ◌-ℤ◌, ◌*ℤ◌, neg_ℤ, sym, refl, ap, ◌∙◌, ap₂, arith}
 use Prim.Native.Nat.{compare, Ordering}
 use native.Mathlib.Omega.{compare-eq}
-use lib.IntN.{*ℤ_comm, zero-*ℤ, +ℤ_idr, +ℤ_idl, +ℤ_assoc, -ℤ-+ℤ_cancel, +ℤ_invr}
+use lib.IntN.{*ℤ_comm, zero-*ℤ, +ℤ_idr, +ℤ_idl, +ℤ_assoc, +ℤ_invr}
 use borrow.Author.Differences.{ints}
 use Rattle.ints.proofs.Laws.{add-*ℤ, *ℤ-add, *ℤ-assoc, neg-*ℤ, one-*ℤ, *ℤ-left_comm, +ℤ-left_comm}
 

@@ -1,4 +1,6 @@
 // Runs a console's input: questions, and drawing jobs.
+#![tactic(auto)]
+
 mod job;
 mod other;
 mod performance;

@@ -1,4 +1,6 @@
 // Worked cases of lattices, layers and piles, with answers of an independent implementation.
+#![tactic(auto)]
+
 #[cfg(test)]
 mod answers;
 #[cfg(test)]

@@ -1,4 +1,6 @@
 // Layers over a symmetry: shift, recast and counterchange, each a symmetry itself.
+#![tactic(auto)]
+
 pub mod counterchange;
 pub mod layer;
 pub mod matrix;

@@ -1,3 +1,5 @@
 // Lines: the cells from one cell to another.
+#![tactic(auto)]
+
 pub mod line;
 pub mod refusal;

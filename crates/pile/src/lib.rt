@@ -1,4 +1,6 @@
 // Piles of layers made at run time.
+#![tactic(auto)]
+
 pub mod base;
 mod levels;
 pub mod pile;

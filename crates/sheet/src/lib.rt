@@ -1,4 +1,6 @@
 // Sheets: strokes are laid on an open sheet, and either kind of sheet shows its cells.
+#![tactic(auto)]
+
 mod laying;
 pub mod mark;
 pub mod refusal;

@@ -1,4 +1,6 @@
 // Tests of lines, sheets, windows and histories.
+#![tactic(auto)]
+
 #[cfg(test)]
 mod histories;
 #[cfg(test)]

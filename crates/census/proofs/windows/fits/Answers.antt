@@ -1,5 +1,5 @@
 use Rattle.std.proofs.Common.{◌*◌, ◌≤◌, mul-le-mul, arith}
 use Rattle.census.proofs.windows.fits.Goals as goal
 
-pub overflow-sub-width : goal.overflow-sub-width
-overflow-sub-width c = mul-le-mul c.requires.0 c.requires.1
+pub overflow_sub-width : goal.overflow_sub-width
+overflow_sub-width c = mul-le-mul c.requires.0 c.requires.1

@@ -16,6 +16,6 @@ pub loop-k-preserved : goal.loop-k-preserved
 loop-k-preserved g c =
     let home = (g.S.Symmetry.meaning c.args.symmetry.now).home in
     let hs = vec_items c.loop-k.homes in
-    c.in-ok-note.ensures
+    c.in_ok-note.ensures
     ∙ ap (λ (z : Cell). noted hs (home z)) c.cell_of.ensures
     ∙ met_more home c.args.corner c.args.width c.loop-k.k hs c.loop-k.invariant

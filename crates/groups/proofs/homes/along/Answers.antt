@@ -14,8 +14,8 @@ linear c =
 near : (c : goal.After-shift) → nat_abs c.dot.result ≤ 2_000_000
 near c = subst (λ (z : ℤ). nat_abs z ≤ 2_000_000) (sym (linear c)) (linear_bound c.args.a c.args.x c.args.b c.args.y c.requires.0 c.requires.1 c.requires.2 c.requires.3)
 
-pub overflow-add-result : goal.overflow-add-result
-overflow-add-result c = sum_fits c.dot.result c.shift.result (omega (arith, near c)) (omega (arith, c.shift.ensures.bound))
+pub overflow_add-result : goal.overflow_add-result
+overflow_add-result c = sum_fits c.dot.result c.shift.result (omega (arith, near c)) (omega (arith, c.shift.ensures.bound))
 
 pub returns : goal.returns
 returns c =

@@ -2,8 +2,8 @@ use Rattle.std.proofs.Common.{◌-ℤ◌, ◌*ℤ◌, ◌∙◌, ap₂, arith}
 use Rattle.ints.proofs.Sizes.{through_64, difference_fits, difference_is}
 use Rattle.ints.proofs.products.cross.Goals as goal
 
-pub overflow-sub-result : goal.overflow-sub-result
-overflow-sub-result c = difference_fits c.product.result c.product-2.result c.product.ensures.bound c.product-2.ensures.bound
+pub overflow_sub-result : goal.overflow_sub-result
+overflow_sub-result c = difference_fits c.product.result c.product-2.result c.product.ensures.bound c.product-2.ensures.bound
 
 pub returns : goal.returns
 returns c =

@@ -2,8 +2,8 @@ use Rattle.std.proofs.Common.{◌+ℤ◌, ◌*ℤ◌, ◌∙◌, ap₂, arith}
 use Rattle.ints.proofs.Sizes.{through_64, sum_fits, sum_is}
 use Rattle.ints.proofs.products.dot.Goals as goal
 
-pub overflow-add-result : goal.overflow-add-result
-overflow-add-result c = sum_fits c.product.result c.product-2.result c.product.ensures.bound c.product-2.ensures.bound
+pub overflow_add-result : goal.overflow_add-result
+overflow_add-result c = sum_fits c.product.result c.product-2.result c.product.ensures.bound c.product-2.ensures.bound
 
 pub returns : goal.returns
 returns c =

@@ -1,10 +1,10 @@
-use Rattle.std.proofs.Common.{◌≤◌, ◌*ℤ◌, nat_abs, arith, w64, SFits}
+use Rattle.std.proofs.Common.{◌*ℤ◌, arith, w64, SFits}
 use Rattle.std.proofs.lemmas.Int.{to_z-of_z}
 use Rattle.ints.proofs.Sizes.{fits_64, product_bound}
 use Rattle.ints.proofs.products.product.Goals as goal
 
-pub overflow-mul-result : goal.overflow-mul-result
-overflow-mul-result c =
+pub overflow_mul-result : goal.overflow_mul-result
+overflow_mul-result c =
     let a = c.args.a in
     let x = c.args.x in
     let fa : SFits w64 a = fits_64 a (omega (arith, c.requires.0)) in

@@ -34,19 +34,19 @@ module _ (v : Vectors) (told : None ≡ refusal v) (a b : Upright) (ea : a ≡ r
 pub turn-upright-requires : goal.turn-upright-requires
 turn-upright-requires c =
     let held : Vectors = record { ax = z64 c.args.ax; ay = z64 c.args.ay; bx = z64 c.args.bx; by = z64 c.args.by } in
-    let s = small_is held (accepted held c.in-default.ensures).0 in
+    let s = small_is held (accepted held c.in_default.ensures).0 in
     (s.ax, s.ay)
 
 pub turn-upright-requires-2 : goal.turn-upright-requires-2
 turn-upright-requires-2 c =
     let held : Vectors = record { ax = z64 c.args.ax; ay = z64 c.args.ay; bx = z64 c.args.bx; by = z64 c.args.by } in
-    let s = small_is held (accepted held c.in-default.ensures).0 in
+    let s = small_is held (accepted held c.in_default.ensures).0 in
     (s.bx, s.by)
 
 pub euclid-requires : goal.euclid-requires
 euclid-requires c =
     let held : Vectors = record { ax = z64 c.args.ax; ay = z64 c.args.ay; bx = z64 c.args.bx; by = z64 c.args.by } in
-    bounded held c.in-default.ensures c.turn-upright.result c.turn-upright-2.result c.turn-upright.ensures c.turn-upright-2.ensures
+    bounded held c.in_default.ensures c.turn-upright.result c.turn-upright-2.result c.turn-upright.ensures c.turn-upright-2.ensures
 
 pub returns : goal.returns
 returns c =
@@ -57,5 +57,5 @@ returns c =
       bx = to_z-of_z w64 c.args.bx c.ranges.bx i;
       by = to_z-of_z w64 c.args.by c.ranges.by i;
     } in
-    let k = subst (Promised c.euclid.result) same (promised held c.in-default.ensures c.turn-upright.result c.turn-upright-2.result c.turn-upright.ensures c.turn-upright-2.ensures c.euclid.result c.euclid.ensures) in
+    let k = subst (Promised c.euclid.result) same (promised held c.in_default.ensures c.turn-upright.result c.turn-upright-2.result c.turn-upright.ensures c.turn-upright-2.ensures c.euclid.result c.euclid.ensures) in
     record { outcome = k.0; reduces = k.1 }

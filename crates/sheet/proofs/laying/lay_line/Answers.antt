@@ -17,16 +17,16 @@ pub loop-i-init : goal.loop-i-init
 loop-i-init g c =
     (c.requires.none, ahead_none (lay_all (g.S.Symmetry.meaning c.args.symmetry.now) (g.C.Canvas.board c.args.canvas.now) c.args.mark (line_cells c.args.line.now.from c.args.line.now.to)))
 
-pub returns-in-err-lay : goal.returns-in-err-lay
-returns-in-err-lay g c =
+pub returns-in_err-lay : goal.returns-in_err-lay
+returns-in_err-lay g c =
     let m = g.S.Symmetry.meaning c.args.symmetry.now in
     let line = c.args.line.now in
     let cells = line_cells line.from line.to in
     let whole = lay_all m (g.C.Canvas.board c.args.canvas.now) c.args.mark cells in
     let short : c.loop-i.i < length cells = omega (arith, c.cells-cells.ensures) in
-    let t = c.in-err-lay.ensures in
+    let t = c.in_err-lay.ensures in
     let e = err_from_is_err_and c.from-residual.result c.from-residual.ensures.1 in
-    let w = ahead_stop m c.args.mark cells whole c.loop-i.i (g.C.Canvas.board c.loop-i.canvas) c.loop-i.invariant.1 c.cell.result line.to short c.cell.ensures c.in-err-lay.field-0.0 t.answer in
+    let w = ahead_stop m c.args.mark cells whole c.loop-i.i (g.C.Canvas.board c.loop-i.canvas) c.loop-i.invariant.1 c.cell.result line.to short c.cell.ensures c.in_err-lay.field-0.0 t.answer in
     record { answer = e.1 ∙ ap Err e.2 ∙ ap lay_answer w.1; count = c.loop-i.invariant.0 ∙ w.0; after = t.after ∙ w.2 }
 
 pub loop-i-preserved : goal.loop-i-preserved
@@ -36,9 +36,9 @@ loop-i-preserved g c =
     let cells = line_cells line.from line.to in
     let whole = lay_all m (g.C.Canvas.board c.args.canvas.now) c.args.mark cells in
     let short : c.loop-i.i < length cells = omega (arith, c.cells-cells.ensures) in
-    let t = c.in-ok-lay.ensures in (
+    let t = c.in_ok-lay.ensures in (
       omega (arith, c.loop-i.invariant.0),
-      ahead_more m c.args.mark cells whole c.loop-i.i (g.C.Canvas.board c.loop-i.canvas) c.loop-i.invariant.1 c.cell.result line.to short c.cell.ensures c.in-ok-lay.field-0 (g.C.Canvas.board c.lay.new.canvas) t.answer t.after,
+      ahead_more m c.args.mark cells whole c.loop-i.i (g.C.Canvas.board c.loop-i.canvas) c.loop-i.invariant.1 c.cell.result line.to short c.cell.ensures c.in_ok-lay.field-0 (g.C.Canvas.board c.lay.new.canvas) t.answer t.after,
     )
 
 pub returns : goal.returns

@@ -13,47 +13,47 @@ lay-line-requires g c =
     let m = g.S.Symmetry.meaning c.args.symmetry.now in
     let from = c.args.from in
     let to = c.args.to in
-    let t = c.in-ok-line.ensures in
-    let in_span = entered m c.args.strokes c.args.mark from to (verdict_none (entry_refusal m c.args.strokes c.args.mark from to) c.in-ok-admit.field-0 c.in-ok-admit.ensures) in
+    let t = c.in_ok-line.ensures in
+    let in_span = entered m c.args.strokes c.args.mark from to (verdict_none (entry_refusal m c.args.strokes c.args.mark from to) c.in_ok-admit.field-0 c.in_ok-admit.ensures) in
     let same = ap₂ line_cells t.answer.0 t.answer.1 in
     record { within = subst (AllWithin m.span) (sym same) (t.joins.between m.span in_span.start in_span.end); none = c.requires }
 
-pub returns-in-err-admit : goal.returns-in-err-admit
-returns-in-err-admit g c =
+pub returns-in_err-admit : goal.returns-in_err-admit
+returns-in_err-admit g c =
     let m = g.S.Symmetry.meaning c.args.symmetry.now in
     let e = err_from_is_err_and c.from-residual.result c.from-residual.ensures.1 in
-    let w = drawn_barred m c.args.strokes (g.C.Canvas.board c.args.canvas.now) c.args.mark c.args.from c.args.to (line_cells c.args.from c.args.to) c.in-err-admit.field-0.0 c.in-err-admit.ensures in
+    let w = drawn_barred m c.args.strokes (g.C.Canvas.board c.args.canvas.now) c.args.mark c.args.from c.args.to (line_cells c.args.from c.args.to) c.in_err-admit.field-0.0 c.in_err-admit.ensures in
     record { answer = e.1 ∙ ap Err e.2 ∙ ap verdict w.why; count = c.requires ∙ w.count; after = w.board }
 
-pub returns-in-err-line : goal.returns-in-err-line
-returns-in-err-line g c =
+pub returns-in_err-line : goal.returns-in_err-line
+returns-in_err-line g c =
     let m = g.S.Symmetry.meaning c.args.symmetry.now in
-    let e = err_from_is_err_and c.from-residual-in-err-line.result c.from-residual-in-err-line.ensures.1 in
-    let t = c.in-err-line.ensures in
-    let w = drawn_long m c.args.strokes (g.C.Canvas.board c.args.canvas.now) c.args.mark c.args.from c.args.to (line_cells c.args.from c.args.to) c.in-ok-admit.field-0 c.in-ok-admit.ensures t.answer.1 in
+    let e = err_from_is_err_and c.from-residual-in_err-line.result c.from-residual-in_err-line.ensures.1 in
+    let t = c.in_err-line.ensures in
+    let w = drawn_long m c.args.strokes (g.C.Canvas.board c.args.canvas.now) c.args.mark c.args.from c.args.to (line_cells c.args.from c.args.to) c.in_ok-admit.field-0 c.in_ok-admit.ensures t.answer.1 in
     record { answer = e.1 ∙ ap Err e.2 ∙ ap verdict w.why; count = c.requires ∙ w.count; after = w.board }
 
-pub returns-in-err-lay-line : goal.returns-in-err-lay-line
-returns-in-err-lay-line g c =
+pub returns-in_err-lay-line : goal.returns-in_err-lay-line
+returns-in_err-lay-line g c =
     let m = g.S.Symmetry.meaning c.args.symmetry.now in
     let b = g.C.Canvas.board c.args.canvas.now in
-    let line = c.in-ok-line.line in
-    let made = c.in-ok-line.ensures in
-    let t = c.in-err-lay-line.ensures in
-    let e = err_from_is_err_and c.from-residual-in-err-lay-line.result c.from-residual-in-err-lay-line.ensures.1 in
+    let line = c.in_ok-line.line in
+    let made = c.in_ok-line.ensures in
+    let t = c.in_err-lay-line.ensures in
+    let e = err_from_is_err_and c.from-residual-in_err-lay-line.result c.from-residual-in_err-lay-line.ensures.1 in
     let l : Laid = lay_all m b c.args.mark (line_cells line.from line.to) in
-    let w = drawn_laid m c.args.strokes b c.args.mark c.args.from c.args.to (line_cells c.args.from c.args.to) c.in-ok-admit.field-0 c.in-ok-admit.ensures made.answer.2 l (ap (lay_all m b c.args.mark) (sym (ap₂ line_cells made.answer.0 made.answer.1))) in
-    let stopped = lay_some l.stop c.in-err-lay-line.field-0.0 t.answer in
+    let w = drawn_laid m c.args.strokes b c.args.mark c.args.from c.args.to (line_cells c.args.from c.args.to) c.in_ok-admit.field-0 c.in_ok-admit.ensures made.answer.2 l (ap (lay_all m b c.args.mark) (sym (ap₂ line_cells made.answer.0 made.answer.1))) in
+    let stopped = lay_some l.stop c.in_err-lay-line.field-0.0 t.answer in
     record { answer = e.1 ∙ ap Err e.2 ∙ ap (λ o. verdict (by_laying o)) (sym stopped) ∙ ap verdict w.why; count = t.count ∙ w.count; after = t.after ∙ w.board }
 
 pub returns : goal.returns
 returns g c =
     let m = g.S.Symmetry.meaning c.args.symmetry.now in
     let b = g.C.Canvas.board c.args.canvas.now in
-    let line = c.in-ok-line.line in
-    let made = c.in-ok-line.ensures in
-    let t = c.in-ok-lay-line.ensures in
+    let line = c.in_ok-line.line in
+    let made = c.in_ok-line.ensures in
+    let t = c.in_ok-lay-line.ensures in
     let l : Laid = lay_all m b c.args.mark (line_cells line.from line.to) in
-    let w = drawn_laid m c.args.strokes b c.args.mark c.args.from c.args.to (line_cells c.args.from c.args.to) c.in-ok-admit.field-0 c.in-ok-admit.ensures made.answer.2 l (ap (lay_all m b c.args.mark) (sym (ap₂ line_cells made.answer.0 made.answer.1))) in
-    let stopped = lay_none l.stop c.in-ok-lay-line.field-0 t.answer in
+    let w = drawn_laid m c.args.strokes b c.args.mark c.args.from c.args.to (line_cells c.args.from c.args.to) c.in_ok-admit.field-0 c.in_ok-admit.ensures made.answer.2 l (ap (lay_all m b c.args.mark) (sym (ap₂ line_cells made.answer.0 made.answer.1))) in
+    let stopped = lay_none l.stop c.in_ok-lay-line.field-0 t.answer in
     record { answer = ap (λ o. verdict (by_laying o)) (sym stopped) ∙ ap verdict w.why; count = t.count ∙ w.count; after = t.after ∙ w.board }

@@ -9,44 +9,44 @@ use Rattle.views.proofs.Judging.{covered_is, picture_is, refused_height, refused
 use Rattle.views.proofs.Placing.{Written, written_more}
 use Rattle.views.proofs.window.window.Goals as goal
 
-pub returns-in-err-wide : goal.returns-in-err-wide
-returns-in-err-wide g c =
+pub returns-in_err-wide : goal.returns-in_err-wide
+returns-in_err-wide g c =
     let e = err_from_is_err_and c.from-residual.result c.from-residual.ensures.1 in
-    let s = side_dropped c.args.width c.in-err-wide.field-0.0 (c.in-err-wide.ensures ∙ ap side_of (to_z-of_z w64 c.args.width c.ranges.width)) in
+    let s = side_dropped c.args.width c.in_err-wide.field-0.0 (c.in_err-wide.ensures ∙ ap side_of (to_z-of_z w64 c.args.width c.ranges.width)) in
     let w = refused_width (g.S.Symmetry.meaning c.args.symmetry.now) (g.C.Canvas.board c.args.canvas.now) c.args.corner c.args.width c.args.height c.args.palette.now c.args.output.now s.0 in
     record { answer = e.1 ∙ ap Err (e.2 ∙ s.1) ∙ w.answered; output = w.left }
 
-pub returns-in-err-high : goal.returns-in-err-high
-returns-in-err-high g c =
-    let e = err_from_is_err_and c.from-residual-in-err-high.result c.from-residual-in-err-high.ensures.1 in
-    let s = side_dropped c.args.height c.in-err-high.field-0.0 (c.in-err-high.ensures ∙ ap side_of (to_z-of_z w64 c.args.height c.ranges.height)) in
+pub returns-in_err-high : goal.returns-in_err-high
+returns-in_err-high g c =
+    let e = err_from_is_err_and c.from-residual-in_err-high.result c.from-residual-in_err-high.ensures.1 in
+    let s = side_dropped c.args.height c.in_err-high.field-0.0 (c.in_err-high.ensures ∙ ap side_of (to_z-of_z w64 c.args.height c.ranges.height)) in
     let w = refused_height (g.S.Symmetry.meaning c.args.symmetry.now) (g.C.Canvas.board c.args.canvas.now) c.args.corner c.args.width c.args.height c.args.palette.now c.args.output.now s.0 in
     record { answer = e.1 ∙ ap Err (e.2 ∙ s.1) ∙ w.answered; output = w.left }
 
 pub returns-then-not-covers : goal.returns-then-not-covers
 returns-then-not-covers g c =
     let m = g.S.Symmetry.meaning c.args.symmetry.now in
-    let wide = side_taken c.args.width c.in-ok-wide.wide (c.in-ok-wide.ensures ∙ ap side_of (to_z-of_z w64 c.args.width c.ranges.width)) in
-    let high = side_taken c.args.height c.in-ok-high.high (c.in-ok-high.ensures ∙ ap side_of (to_z-of_z w64 c.args.height c.ranges.height)) in
-    let out = covered_is c.span.result m.span c.args.corner c.in-ok-wide.wide c.in-ok-high.high c.args.width c.args.height c.covers.result _ c.span.ensures wide.1 high.1 c.covers.ensures c.if-not-covers.true in
+    let wide = side_taken c.args.width c.in_ok-wide.wide (c.in_ok-wide.ensures ∙ ap side_of (to_z-of_z w64 c.args.width c.ranges.width)) in
+    let high = side_taken c.args.height c.in_ok-high.high (c.in_ok-high.ensures ∙ ap side_of (to_z-of_z w64 c.args.height c.ranges.height)) in
+    let out = covered_is c.span.result m.span c.args.corner c.in_ok-wide.wide c.in_ok-high.high c.args.width c.args.height c.covers.result _ c.span.ensures wide.1 high.1 c.covers.ensures c.if-not-covers.true in
     let w = refused_span m (g.C.Canvas.board c.args.canvas.now) c.args.corner c.args.width c.args.height c.args.palette.now c.args.output.now wide.0 high.0 out in
     record { answer = w.answered; output = w.left }
 
 pub returns-then-palette-ne48 : goal.returns-then-palette-ne48
 returns-then-palette-ne48 g c =
     let m = g.S.Symmetry.meaning c.args.symmetry.now in
-    let wide = side_taken c.args.width c.in-ok-wide.wide (c.in-ok-wide.ensures ∙ ap side_of (to_z-of_z w64 c.args.width c.ranges.width)) in
-    let high = side_taken c.args.height c.in-ok-high.high (c.in-ok-high.ensures ∙ ap side_of (to_z-of_z w64 c.args.height c.ranges.height)) in
-    let inner = covered_is c.span.result m.span c.args.corner c.in-ok-wide.wide c.in-ok-high.high c.args.width c.args.height c.covers.result _ c.span.ensures wide.1 high.1 c.covers.ensures c.if-not-covers.false in
+    let wide = side_taken c.args.width c.in_ok-wide.wide (c.in_ok-wide.ensures ∙ ap side_of (to_z-of_z w64 c.args.width c.ranges.width)) in
+    let high = side_taken c.args.height c.in_ok-high.high (c.in_ok-high.ensures ∙ ap side_of (to_z-of_z w64 c.args.height c.ranges.height)) in
+    let inner = covered_is c.span.result m.span c.args.corner c.in_ok-wide.wide c.in_ok-high.high c.args.width c.args.height c.covers.result _ c.span.ensures wide.1 high.1 c.covers.ensures c.if-not-covers.false in
     let w = refused_palette m (g.C.Canvas.board c.args.canvas.now) c.args.corner c.args.width c.args.height c.args.palette.now c.args.output.now wide.0 high.0 inner c.if-palette-ne48.true in
     record { answer = w.answered; output = w.left }
 
 pub returns-then-output-size : goal.returns-then-output-size
 returns-then-output-size g c =
     let m = g.S.Symmetry.meaning c.args.symmetry.now in
-    let wide = side_taken c.args.width c.in-ok-wide.wide (c.in-ok-wide.ensures ∙ ap side_of (to_z-of_z w64 c.args.width c.ranges.width)) in
-    let high = side_taken c.args.height c.in-ok-high.high (c.in-ok-high.ensures ∙ ap side_of (to_z-of_z w64 c.args.height c.ranges.height)) in
-    let inner = covered_is c.span.result m.span c.args.corner c.in-ok-wide.wide c.in-ok-high.high c.args.width c.args.height c.covers.result _ c.span.ensures wide.1 high.1 c.covers.ensures c.if-not-covers.false in
+    let wide = side_taken c.args.width c.in_ok-wide.wide (c.in_ok-wide.ensures ∙ ap side_of (to_z-of_z w64 c.args.width c.ranges.width)) in
+    let high = side_taken c.args.height c.in_ok-high.high (c.in_ok-high.ensures ∙ ap side_of (to_z-of_z w64 c.args.height c.ranges.height)) in
+    let inner = covered_is c.span.result m.span c.args.corner c.in_ok-wide.wide c.in_ok-high.high c.args.width c.args.height c.covers.result _ c.span.ensures wide.1 high.1 c.covers.ensures c.if-not-covers.false in
     let size = c.picture-size-size.ensures ∙ ap₂ picture_size wide.1 high.1 in
     let w = refused_output m (g.C.Canvas.board c.args.canvas.now) c.args.corner c.args.width c.args.height c.args.palette.now c.args.output.now wide.0 high.0 inner c.if-palette-ne48.false (subst (λ n. length c.args.output.now < n) size c.if-output-size.true) in
     record { answer = w.answered; output = w.left }
@@ -54,12 +54,12 @@ returns-then-output-size g c =
 pub put-rows-requires : goal.put-rows-requires
 put-rows-requires g c =
     let m = g.S.Symmetry.meaning c.args.symmetry.now in
-    let w = c.in-ok-wide.wide in
-    let h = c.in-ok-high.high in
+    let w = c.in_ok-wide.wide in
+    let h = c.in_ok-high.high in
     let cells = window_cells c.args.corner w h in
     let inner : all_inside m.span cells ≡ true = ap (λ n. all_inside n cells) (sym c.span.ensures) ∙ sym c.covers.ensures ∙ c.if-not-covers.false in
-    let wide = side_taken c.args.width w (c.in-ok-wide.ensures ∙ ap side_of (to_z-of_z w64 c.args.width c.ranges.width)) in
-    let high = side_taken c.args.height h (c.in-ok-high.ensures ∙ ap side_of (to_z-of_z w64 c.args.height c.ranges.height)) in
+    let wide = side_taken c.args.width w (c.in_ok-wide.ensures ∙ ap side_of (to_z-of_z w64 c.args.width c.ranges.width)) in
+    let high = side_taken c.args.height h (c.in_ok-high.ensures ∙ ap side_of (to_z-of_z w64 c.args.height c.ranges.height)) in
     let one : 1 ≤ w = subst (λ n. 1 ≤ n) (sym wide.1) (side-least c.args.width wide.0) in
     let also : 1 ≤ h = subst (λ n. 1 ≤ n) (sym high.1) (side-least c.args.height high.0) in
     let near = corner_near m.span c.args.corner w h one also (all_within m.span cells inner) in
@@ -72,10 +72,10 @@ returns g c =
     let xs = c.args.output.now in
     let palette = c.args.palette.now in
     let corner = c.args.corner in
-    let w = c.in-ok-wide.wide in
-    let h = c.in-ok-high.high in
-    let wide = side_taken c.args.width w (c.in-ok-wide.ensures ∙ ap side_of (to_z-of_z w64 c.args.width c.ranges.width)) in
-    let high = side_taken c.args.height h (c.in-ok-high.ensures ∙ ap side_of (to_z-of_z w64 c.args.height c.ranges.height)) in
+    let w = c.in_ok-wide.wide in
+    let h = c.in_ok-high.high in
+    let wide = side_taken c.args.width w (c.in_ok-wide.ensures ∙ ap side_of (to_z-of_z w64 c.args.width c.ranges.width)) in
+    let high = side_taken c.args.height h (c.in_ok-high.ensures ∙ ap side_of (to_z-of_z w64 c.args.height c.ranges.height)) in
     let inner = covered_is c.span.result m.span corner w h c.args.width c.args.height c.covers.result _ c.span.ensures wide.1 high.1 c.covers.ensures c.if-not-covers.false in
     let size = c.picture-size-size.ensures ∙ ap₂ picture_size wide.1 high.1 in
     let ends = written m b corner c.args.width c.args.height palette xs wide.0 high.0 inner c.if-palette-ne48.false (subst (λ n. n ≤ length xs) size c.if-output-size.false) in

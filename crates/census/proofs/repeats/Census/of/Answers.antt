@@ -8,7 +8,7 @@ use Rattle.groups.specs.Tabled.{InRepeat, tabled}
 use Rattle.census.specs.Homes.{Homes}
 use Rattle.census.specs.Census.{cell_at}
 use Rattle.census.proofs.repeats.Census.of.Goals as goal
-use Rattle.census.proofs.repeats.Census.of.Goals.{in-Some+then-on-mirror, in-Some+else-on-mirror, in-default}
+use Rattle.census.proofs.repeats.Census.of.Goals.{in-Some+then-on-mirror, in-Some+else-on-mirror, in_default}
 
 pub loop-k-preserved : goal.loop-k-preserved
 loop-k-preserved c =
@@ -35,8 +35,8 @@ loop-k-preserved c =
             omega (arith, w.classes-is, w.mirrored-is, c.loop-k.invariant.2),
             omega (arith, w.classes-is, c.loop-k.invariant.3),
           )
-      | in-default w ↦
-          let other : (home (cell_at g.p k) ≡ cell_at g.p k) → ⊥ = subst (λ (z : Cell). home z ≡ z → ⊥) at w.in-default.ensures in (
+      | in_default w ↦
+          let other : (home (cell_at g.p k) ≡ cell_at g.p k) → ⊥ = subst (λ (z : Cell). home z ≡ z → ⊥) at w.in_default.ensures in (
             many_same g.number g.p g.q k c.loop-k.classes other c.loop-k.invariant.0 ∙ sym w.classes-is,
             mirrored_same g.number g.p g.q k c.loop-k.mirrored other c.loop-k.invariant.1 ∙ sym w.mirrored-is,
             omega (arith, w.classes-is, w.mirrored-is, c.loop-k.invariant.2),

@@ -3,11 +3,11 @@ use Rattle.std.proofs.lemmas.Int.{to_z-of_z}
 use Rattle.dense.proofs.Places.{no_row, row_and_column}
 use Rattle.dense.proofs.grid.inks.place.Goals as goal
 
-pub returns-in-default-offset : goal.returns-in-default-offset
-returns-in-default-offset c =
+pub returns-in_default-offset : goal.returns-in_default-offset
+returns-in_default-offset c =
     let fy : SFits w32 c.args.area.y = search rules in
     let fp : SFits w64 c.args.at.y = search rules in
-    no_row c.args.area c.args.at (sym c.in-default-offset.is ∙ simp to_z-of_z at c.offset-2.ensures)
+    no_row c.args.area c.args.at (sym c.in_default-offset.is ∙ simp to_z-of_z at c.offset-2.ensures)
 
 pub returns : goal.returns
 returns c =

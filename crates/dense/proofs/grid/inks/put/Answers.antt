@@ -11,11 +11,11 @@ returns-then-ink-gt15 c =
     let w = refuses_ink (area_board grid.area grid.bytes.now grid.held) c.args.at c.args.ink c.if-ink-gt15.true in
     record { answer = sym w.answer; after = sym w.board; long = c.requires.long; small = c.requires.small; counted = c.requires.counted; rest = refl }
 
-pub returns-in-default : goal.returns-in-default
-returns-in-default c =
+pub returns-in_default : goal.returns-in_default
+returns-in_default c =
     let grid = c.args.grid.now in
     let low : c.args.ink ≤ 15 = omega arith in
-    let w = refuses_frame (area_board grid.area grid.bytes.now grid.held) c.args.at c.args.ink low (uncovered grid.area c.args.at (sym c.in-default.is ∙ c.place.ensures)) in
+    let w = refuses_frame (area_board grid.area grid.bytes.now grid.held) c.args.at c.args.ink low (uncovered grid.area c.args.at (sym c.in_default.is ∙ c.place.ensures)) in
     record { answer = sym w.answer; after = sym w.board; long = c.requires.long; small = c.requires.small; counted = c.requires.counted; rest = refl }
 
 pub bounds-grid-i : goal.bounds-grid-i

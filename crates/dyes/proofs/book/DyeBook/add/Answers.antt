@@ -8,10 +8,10 @@ use Rattle.dyes.specs.Shelves.{shelf_book}
 use Rattle.dyes.proofs.Lawful.{shelf_laws}
 use Rattle.dyes.proofs.book.DyeBook.add.Goals as goal
 
-pub returns-in-err-name : goal.returns-in-err-name
-returns-in-err-name c =
+pub returns-in_err-name : goal.returns-in_err-name
+returns-in_err-name c =
     let d = c.args.self.now in
-    let was = sym c.in-err-name.was ∙ c.spelled.ensures in
+    let was = sym c.in_err-name.was ∙ c.spelled.ensures in
     let q = err_from_is_err_and c.from-residual.result c.from-residual.ensures.1 in
     record {
       answer = q.1 ∙ ap Err q.2 ∙ ap (λ (r : Result DyeName DyeRefused). answer_of r (dye_book d)) was;
@@ -22,7 +22,7 @@ returns-in-err-name c =
 pub returns : goal.returns
 returns c =
     let d = c.args.self.now in
-    let was = sym c.in-ok-name.was ∙ c.spelled.ensures in
+    let was = sym c.in_ok-name.was ∙ c.spelled.ensures in
     let after = c.add.new.shelf in
     record {
       answer = c.add.ensures.answer ∙ ap (λ (r : Result DyeName DyeRefused). answer_of r (dye_book d)) was;

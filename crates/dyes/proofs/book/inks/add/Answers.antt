@@ -11,16 +11,16 @@ returns-in-Some c =
 pub returns-then-count-ge15 : goal.returns-then-count-ge15
 returns-then-count-ge15 c =
     let l : 15 ≤ length (held c.args.shelf.now) = omega (arith, c.len-count.ensures.is, c.if-count-ge15.true) in
-    let w = fifteen c.args.shelf.now c.args.name c.requires.sorted c.requires.numbered c.requires.each c.requires.few (sym c.in-default.ensures) l in
+    let w = fifteen c.args.shelf.now c.args.name c.requires.sorted c.requires.numbered c.requires.each c.requires.few (sym c.in_default.ensures) l in
     record { answer = w.answers; after = w.book; sorted = w.sorted; numbered = w.numbered; each = w.each; few = w.few }
 
-pub returns-in-err-insert : goal.returns-in-err-insert
-returns-in-err-insert c =
-    let w = no_record c.args.shelf.now c.args.name c.requires.sorted c.requires.numbered c.requires.each c.requires.few (record { name = c.args.name; ink = c.len-count.result + 1 }) refl (ap (λ k. k + 1) c.len-count.ensures.is) (sym c.in-default.ensures) c.insert.new.self c.insert.result c.in-err-insert.field-0.0 c.from-residual.result c.insert.ensures c.in-err-insert.was c.from-residual.ensures.1 in
+pub returns-in_err-insert : goal.returns-in_err-insert
+returns-in_err-insert c =
+    let w = no_record c.args.shelf.now c.args.name c.requires.sorted c.requires.numbered c.requires.each c.requires.few (record { name = c.args.name; ink = c.len-count.result + 1 }) refl (ap (λ k. k + 1) c.len-count.ensures.is) (sym c.in_default.ensures) c.insert.new.self c.insert.result c.in_err-insert.field-0.0 c.from-residual.result c.insert.ensures c.in_err-insert.was c.from-residual.ensures.1 in
     record { answer = w.answers; after = w.book; sorted = w.sorted; numbered = w.numbered; each = w.each; few = w.few }
 
 pub returns : goal.returns
 returns c =
     let l : length (held c.args.shelf.now) < 15 = omega (arith, c.len-count.ensures.is, c.if-count-ge15.false) in
-    let w = added c.args.shelf.now c.args.name c.requires.sorted c.requires.numbered c.requires.each c.requires.few (record { name = c.args.name; ink = c.len-count.result + 1 }) refl (ap (λ k. k + 1) c.len-count.ensures.is) (sym c.in-default.ensures) c.insert.new.self c.insert.result c.in-ok-insert.field-0 (c.len-count.result + 1) (ap (λ k. k + 1) c.len-count.ensures.is) l c.insert.ensures c.in-ok-insert.was in
+    let w = added c.args.shelf.now c.args.name c.requires.sorted c.requires.numbered c.requires.each c.requires.few (record { name = c.args.name; ink = c.len-count.result + 1 }) refl (ap (λ k. k + 1) c.len-count.ensures.is) (sym c.in_default.ensures) c.insert.new.self c.insert.result c.in_ok-insert.field-0 (c.len-count.result + 1) (ap (λ k. k + 1) c.len-count.ensures.is) l c.insert.ensures c.in_ok-insert.was in
     record { answer = w.answers; after = w.book; sorted = w.sorted; numbered = w.numbered; each = w.each; few = w.few }

@@ -18,9 +18,9 @@ returns-in-Ok c =
     let ls = vec_items s.levels in
     let l : Level = record { layer = c.args.layer; below = c.extent-below.result } in
     let items = c.in-Ok.ensures.items in
-    let told = c.in-default.ensures ∙ ap (layer_extent c.args.layer) c.extent-below.ensures in
+    let told = c.in_default.ensures ∙ ap (layer_extent c.args.layer) c.extent-below.ensures in
     record {
       base = refl;
       outcome = (sym (ap is_ok told), items ∙ ap (λ (x : Extent). ls ++ record { layer = c.args.layer; below = x } ∷ []) c.extent-below.ensures);
-      alike = grown_alike ls (vec_items c.push.new.self) l (based s.base) c.in-default.field-0 items told;
+      alike = grown_alike ls (vec_items c.push.new.self) l (based s.base) c.in_default.field-0 items told;
     }

@@ -8,14 +8,14 @@ returns-then-ink-eq0 c =
     let w = bare c.args.shelf.now c.requires.sorted c.requires.sound c.args.at c.args.ink low c.in-Some.new (sym c.in-Some.is ∙ c.entry.ensures) c.remove.new.self c.remove.result c.if-ink-eq0.true c.remove.ensures in
     record { answer = w.answers; after = w.board; sorted = w.sorted; sound = w.sound; size = w.size }
 
-pub returns-in-err-insert : goal.returns-in-err-insert
-returns-in-err-insert c =
+pub returns-in_err-insert : goal.returns-in_err-insert
+returns-in_err-insert c =
     let low : c.args.ink ≤ 15 = omega arith in
-    let w = seatless c.args.shelf.now c.requires.sorted c.requires.sound c.args.at c.args.ink low c.in-Some.new (sym c.in-Some.is ∙ c.entry.ensures) c.if-ink-eq0.false c.insert.new.self c.insert.result c.in-err-insert.field-0.0 c.from-residual.result c.insert.ensures c.in-err-insert.was c.from-residual.ensures.1 in
+    let w = seatless c.args.shelf.now c.requires.sorted c.requires.sound c.args.at c.args.ink low c.in-Some.new (sym c.in-Some.is ∙ c.entry.ensures) c.if-ink-eq0.false c.insert.new.self c.insert.result c.in_err-insert.field-0.0 c.from-residual.result c.insert.ensures c.in_err-insert.was c.from-residual.ensures.1 in
     record { answer = w.answers; after = w.board; sorted = w.sorted; sound = w.sound; size = w.size }
 
 pub returns : goal.returns
 returns c =
     let low : c.args.ink ≤ 15 = omega arith in
-    let w = inked c.args.shelf.now c.requires.sorted c.requires.sound c.args.at c.args.ink low c.in-Some.new (sym c.in-Some.is ∙ c.entry.ensures) c.if-ink-eq0.false c.insert.new.self c.insert.result c.in-ok-insert.field-0 c.insert.ensures c.in-ok-insert.was in
+    let w = inked c.args.shelf.now c.requires.sorted c.requires.sound c.args.at c.args.ink low c.in-Some.new (sym c.in-Some.is ∙ c.entry.ensures) c.if-ink-eq0.false c.insert.new.self c.insert.result c.in_ok-insert.field-0 c.insert.ensures c.in_ok-insert.was in
     record { answer = w.answers; after = w.board; sorted = w.sorted; sound = w.sound; size = w.size }

@@ -26,22 +26,22 @@ module _ (ls read : List Level) (is : read ≡ ls) (m : Meaning) (p : Cell) (pas
   found : (q : Cell) (f g : Fold) → Ok q ≡ lowered_through read p → Ok f ≡ folded m q → g ≡ raised_through read f → Ok g ≡ folded (piled ls m) p
   found q f g e k h = ap Ok (h ∙ ap (λ (ks : List Level). raised_through ks f) is) ∙ ap (λ (r : Result Fold FoldRefused). then r (λ f. Ok (raised_through ls f))) k ∙ onward (Ok q) e
 
-pub returns-in-err-lowered : goal.returns-in-err-lowered
-returns-in-err-lowered c =
+pub returns-in_err-lowered : goal.returns-in_err-lowered
+returns-in_err-lowered c =
     let s = c.args.self.now in
     let ls = vec_items s.levels in
     let h = err_from_is_err_and c.from-residual.result c.from-residual.ensures.1 in
-    h.1 ∙ ap Err h.2 ∙ off_levels ls c.as-slice-levels.result.now c.as-slice-levels.ensures.value (based s.base) c.args.at (pile_fold ls (based s.base) (base_laws s.base) s.level c.args.at) c.in-err-lowered.field-0.0 c.in-err-lowered.ensures
+    h.1 ∙ ap Err h.2 ∙ off_levels ls c.as-slice-levels.result.now c.as-slice-levels.ensures.value (based s.base) c.args.at (pile_fold ls (based s.base) (base_laws s.base) s.level c.args.at) c.in_err-lowered.field-0.0 c.in_err-lowered.ensures
 
-pub returns-in-err-found : goal.returns-in-err-found
-returns-in-err-found c =
+pub returns-in_err-found : goal.returns-in_err-found
+returns-in_err-found c =
     let s = c.args.self.now in
     let ls = vec_items s.levels in
-    let h = err_from_is_err_and c.from-residual-in-err-found.result c.from-residual-in-err-found.ensures.1 in
-    h.1 ∙ ap Err h.2 ∙ off_base ls c.as-slice-levels.result.now c.as-slice-levels.ensures.value (based s.base) c.args.at (pile_fold ls (based s.base) (base_laws s.base) s.level c.args.at) c.in-ok-lowered.lowered c.in-err-found.field-0.0 c.in-ok-lowered.ensures c.in-err-found.ensures
+    let h = err_from_is_err_and c.from-residual-in_err-found.result c.from-residual-in_err-found.ensures.1 in
+    h.1 ∙ ap Err h.2 ∙ off_base ls c.as-slice-levels.result.now c.as-slice-levels.ensures.value (based s.base) c.args.at (pile_fold ls (based s.base) (base_laws s.base) s.level c.args.at) c.in_ok-lowered.lowered c.in_err-found.field-0.0 c.in_ok-lowered.ensures c.in_err-found.ensures
 
 pub returns : goal.returns
 returns c =
     let s = c.args.self.now in
     let ls = vec_items s.levels in
-    found ls c.as-slice-levels.result.now c.as-slice-levels.ensures.value (based s.base) c.args.at (pile_fold ls (based s.base) (base_laws s.base) s.level c.args.at) c.in-ok-lowered.lowered c.in-ok-found.found c.raise-through.result c.in-ok-lowered.ensures c.in-ok-found.ensures c.raise-through.ensures
+    found ls c.as-slice-levels.result.now c.as-slice-levels.ensures.value (based s.base) c.args.at (pile_fold ls (based s.base) (base_laws s.base) s.level c.args.at) c.in_ok-lowered.lowered c.in_ok-found.found c.raise-through.result c.in_ok-lowered.ensures c.in_ok-found.ensures c.raise-through.ensures
