@@ -11,4 +11,4 @@ returns-then-count-records g c = refused g.R.Record.keys c.args.records.now c.ar
 pub returns-else-count-records : goal.returns-else-count-records
 returns-else-count-records g c =
     let room : c.args.count < length c.args.records.now = omega (arith, c.requires) in
-    added g.R.Record.keys c.args.records.now c.args.count (c.args.count - 0) c.requires (omega arith) c.args.item c.key.result c.in-Err.at c.copy-within.new.self c.key.ensures c.in-Err.ensures.within room c.copy-within.ensures.after c.in-Err.ensures.is
+    added g.R.Record.keys c.args.records.now c.args.count (c.args.count - 0) c.requires (omega arith) c.args.item c.key.result c.in-Err.at c.copy_within.new.self c.key.ensures c.in-Err.ensures.within room c.copy_within.ensures.after c.in-Err.ensures.is
