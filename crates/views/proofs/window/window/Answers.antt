@@ -11,14 +11,14 @@ use Rattle.views.proofs.window.window.Goals as goal
 
 pub returns-in_err-wide : goal.returns-in_err-wide
 returns-in_err-wide g c =
-    let e = err_from_is_err_and c.from-residual.result c.from-residual.ensures.1 in
+    let e = err_from_is_err_and c.from_residual.result c.from_residual.ensures.1 in
     let s = side_dropped c.args.width c.in_err-wide.field-0.0 (c.in_err-wide.ensures ∙ ap side_of (to_z-of_z w64 c.args.width c.ranges.width)) in
     let w = refused_width (g.S.Symmetry.meaning c.args.symmetry.now) (g.C.Canvas.board c.args.canvas.now) c.args.corner c.args.width c.args.height c.args.palette.now c.args.output.now s.0 in
     record { answer = e.1 ∙ ap Err (e.2 ∙ s.1) ∙ w.answered; output = w.left }
 
 pub returns-in_err-high : goal.returns-in_err-high
 returns-in_err-high g c =
-    let e = err_from_is_err_and c.from-residual-in_err-high.result c.from-residual-in_err-high.ensures.1 in
+    let e = err_from_is_err_and c.from_residual-in_err-high.result c.from_residual-in_err-high.ensures.1 in
     let s = side_dropped c.args.height c.in_err-high.field-0.0 (c.in_err-high.ensures ∙ ap side_of (to_z-of_z w64 c.args.height c.ranges.height)) in
     let w = refused_height (g.S.Symmetry.meaning c.args.symmetry.now) (g.C.Canvas.board c.args.canvas.now) c.args.corner c.args.width c.args.height c.args.palette.now c.args.output.now s.0 in
     record { answer = e.1 ∙ ap Err (e.2 ∙ s.1) ∙ w.answered; output = w.left }
@@ -47,7 +47,7 @@ returns-then-output-size g c =
     let wide = side_taken c.args.width c.in_ok-wide.wide (c.in_ok-wide.ensures ∙ ap side_of (to_z-of_z w64 c.args.width c.ranges.width)) in
     let high = side_taken c.args.height c.in_ok-high.high (c.in_ok-high.ensures ∙ ap side_of (to_z-of_z w64 c.args.height c.ranges.height)) in
     let inner = covered_is c.span.result m.span c.args.corner c.in_ok-wide.wide c.in_ok-high.high c.args.width c.args.height c.covers.result _ c.span.ensures wide.1 high.1 c.covers.ensures c.if-not-covers.false in
-    let size = c.picture-size-size.ensures ∙ ap₂ picture_size wide.1 high.1 in
+    let size = c.picture_size-size.ensures ∙ ap₂ picture_size wide.1 high.1 in
     let w = refused_output m (g.C.Canvas.board c.args.canvas.now) c.args.corner c.args.width c.args.height c.args.palette.now c.args.output.now wide.0 high.0 inner c.if-palette-ne48.false (subst (λ n. length c.args.output.now < n) size c.if-output-size.true) in
     record { answer = w.answered; output = w.left }
 
@@ -77,8 +77,8 @@ returns g c =
     let wide = side_taken c.args.width w (c.in_ok-wide.ensures ∙ ap side_of (to_z-of_z w64 c.args.width c.ranges.width)) in
     let high = side_taken c.args.height h (c.in_ok-high.ensures ∙ ap side_of (to_z-of_z w64 c.args.height c.ranges.height)) in
     let inner = covered_is c.span.result m.span corner w h c.args.width c.args.height c.covers.result _ c.span.ensures wide.1 high.1 c.covers.ensures c.if-not-covers.false in
-    let size = c.picture-size-size.ensures ∙ ap₂ picture_size wide.1 high.1 in
+    let size = c.picture_size-size.ensures ∙ ap₂ picture_size wide.1 high.1 in
     let ends = written m b corner c.args.width c.args.height palette xs wide.0 high.0 inner c.if-palette-ne48.false (subst (λ n. n ≤ length xs) size c.if-output-size.false) in
-    let top : Written xs (header w h) c.put-header-start.new.output c.put-header-start.result = record { output = c.put-header-start.ensures.output; next = c.put-header-start.ensures.next } in
-    let all = written_more xs (header w h) (pixels m b palette (window_cells corner w h)) c.put-header-start.new.output c.put-rows.new.output c.put-header-start.result (c.put-header-start.result + length (pixels m b palette (window_cells corner w h))) top c.put-rows.ensures refl in
+    let top : Written xs (header w h) c.put_header-start.new.output c.put_header-start.result = record { output = c.put_header-start.ensures.output; next = c.put_header-start.ensures.next } in
+    let all = written_more xs (header w h) (pixels m b palette (window_cells corner w h)) c.put_header-start.new.output c.put_rows.new.output c.put_header-start.result (c.put_header-start.result + length (pixels m b palette (window_cells corner w h))) top c.put_rows.ensures refl in
     record { answer = ap Ok size ∙ ends.answered; output = all.output ∙ ap (λ us. written_over us xs) (picture_is m b palette corner w h c.args.width c.args.height wide.1 high.1) ∙ ends.left }

@@ -10,7 +10,7 @@ returns-then-steps-gt4095 c =
     let uy : SFits w64 c.args.from.y = search rules in
     let vx : SFits w64 c.args.to.x = search rules in
     let vy : SFits w64 c.args.to.y = search rules in
-    let e : c.max-steps.result ≡ reach c.args.from c.args.to = c.max-steps.ensures ∙ ap₂ max (simp to_z-of_z at c.abs-diff-wide.ensures) (simp to_z-of_z at c.abs-diff-high.ensures) in
+    let e : c.max-steps.result ≡ reach c.args.from c.args.to = c.max-steps.ensures ∙ ap₂ max (simp to_z-of_z at c.abs_diff-wide.ensures) (simp to_z-of_z at c.abs_diff-high.ensures) in
     record { answer = (refl, omega (arith, line_length c.args.from c.args.to)); joins = line_joins c.args.from c.args.to }
 
 pub returns : goal.returns
@@ -19,5 +19,5 @@ returns c =
     let uy : SFits w64 c.args.from.y = search rules in
     let vx : SFits w64 c.args.to.x = search rules in
     let vy : SFits w64 c.args.to.y = search rules in
-    let e : c.max-steps.result ≡ reach c.args.from c.args.to = c.max-steps.ensures ∙ ap₂ max (simp to_z-of_z at c.abs-diff-wide.ensures) (simp to_z-of_z at c.abs-diff-high.ensures) in
+    let e : c.max-steps.result ≡ reach c.args.from c.args.to = c.max-steps.ensures ∙ ap₂ max (simp to_z-of_z at c.abs_diff-wide.ensures) (simp to_z-of_z at c.abs_diff-high.ensures) in
     record { answer = (refl, refl, omega (arith, line_length c.args.from c.args.to)); joins = line_joins c.args.from c.args.to }

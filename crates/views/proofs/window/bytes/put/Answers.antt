@@ -8,4 +8,4 @@ returns c =
     let bytes = c.args.bytes.now in
     let at = c.args.at in
     let n : at + length bytes - at ≡ length bytes = omega arith in
-    record { next = refl; output = mid_placed xs c.copy-from-slice.new.self bytes at (at + length bytes - at) c.copy-from-slice.ensures.after n }
+    record { next = refl; output = mid_placed xs c.copy_from_slice.new.self bytes at (at + length bytes - at) c.copy_from_slice.ensures.after n }

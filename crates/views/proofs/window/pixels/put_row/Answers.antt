@@ -17,7 +17,7 @@ pub pixel-requires : goal.pixel-requires
 pixel-requires g c =
     let span = (g.S.Symmetry.meaning c.args.symmetry.now).span in
     record {
-      within = subst (Within span) (sym c.cell-from-cell.ensures) (row_at span c.args.corner c.args.row c.args.width c.requires.within c.loop-column.column c.loop-column-test.true);
+      within = subst (Within span) (sym c.cell_from-cell.ensures) (row_at span c.args.corner c.args.row c.args.width c.requires.within c.loop-column.column c.loop-column-test.true);
       palette = c.requires.palette;
     }
 
@@ -42,7 +42,7 @@ loop-column-preserved g c =
     let room : at + 3 * length cells ≤ length c.args.output.now = omega (arith, c.requires.room) in (
       omega (arith, c.loop-column.invariant.0, c.put-next.ensures.next),
       pixels_more m b palette c.args.output.now at cells (cell_from corner column row ∷ []) (row_cells corner row (column + 1)) c.loop-column.output c.put-next.new.output c.pixel.result c.loop-column.next
-          c.loop-column.invariant.1 from room c.put-next.ensures.output (c.pixel.ensures ∙ ap (λ p. colour palette (shown_ink m b p)) c.cell-from-cell.ensures) (row_more corner row column),
+          c.loop-column.invariant.1 from room c.put-next.ensures.output (c.pixel.ensures ∙ ap (λ p. colour palette (shown_ink m b p)) c.cell_from-cell.ensures) (row_more corner row column),
     )
 
 pub returns : goal.returns

@@ -39,9 +39,9 @@ loop-row-preserved g c =
     let wide : width * row ≤ width * c.args.height = mul-le-mul_left width below in
     let from : c.loop-row.next ≡ at + 3 * length cells = omega (arith, c.loop-row.invariant.0) in
     let room : at + 3 * length cells ≤ length c.args.output.now = omega (arith, c.requires.room) in (
-      omega (arith, c.loop-row.invariant.0, c.put-row-next.ensures.next, mul-suc width row, ap (λ n. width * n) (add-one row)),
-      pixels_more m b c.args.palette.now c.args.output.now at cells (row_cells corner row width) (window_cells corner width (row + 1)) c.loop-row.output c.put-row-next.new.output (pixels m b c.args.palette.now (row_cells corner row width)) c.loop-row.next
-          c.loop-row.invariant.1 from room c.put-row-next.ensures.output refl (window_more corner width row),
+      omega (arith, c.loop-row.invariant.0, c.put_row-next.ensures.next, mul-suc width row, ap (λ n. width * n) (add-one row)),
+      pixels_more m b c.args.palette.now c.args.output.now at cells (row_cells corner row width) (window_cells corner width (row + 1)) c.loop-row.output c.put_row-next.new.output (pixels m b c.args.palette.now (row_cells corner row width)) c.loop-row.next
+          c.loop-row.invariant.1 from room c.put_row-next.ensures.output refl (window_more corner width row),
     )
 
 pub returns : goal.returns

@@ -8,6 +8,6 @@ returns-then-not-is-within c = corner_out c.args.span c.args.corner c.args.width
 
 pub returns : goal.returns
 returns c =
-    c.is-within-2.ensures
+    c.is_within-2.ensures
     ∙ ap (inside c.args.span) c.cell_from.ensures
-    ∙ corner_in c.args.span c.args.corner c.args.width c.args.height c.requires.0 c.requires.1 (sym c.is-within.ensures ∙ c.if-not-is-within.false)
+    ∙ corner_in c.args.span c.args.corner c.args.width c.args.height c.requires.0 c.requires.1 (sym c.is_within.ensures ∙ c.if-not-is_within.false)
