@@ -10,9 +10,9 @@ returns-then-not-fits g c =
     let fw = c.ranges.width in
     let fh = c.ranges.height in
     let w = simp to_z-of_z at c.in-Some.ensures in
-    let h = simp to_z-of_z at c.in-Some-side-of.ensures in
+    let h = simp to_z-of_z at c.in-Some-side_of.ensures in
     let columns = c.in-Some.columns in
-    let rows = c.in-Some-side-of.rows in
+    let rows = c.in-Some-side_of.rows in
     let off = sym (ap (λ (n : ℕ). spanned n c.args.corner columns rows) c.span.ensures) ∙ sym c.if-not-fits.ensures in
     off_span m (g.met.S.Symmetry.lawful c.args.symmetry.now) c.args.corner c.args.width c.args.height columns rows w.1 h.1 w.0 h.0 w.2 h.2 off
 
@@ -23,11 +23,11 @@ gather-requires g c =
     let fw = c.ranges.width in
     let fh = c.ranges.height in
     let w = simp to_z-of_z at c.in-Some.ensures in
-    let h = simp to_z-of_z at c.in-Some-side-of.ensures in
+    let h = simp to_z-of_z at c.in-Some-side_of.ensures in
     let columns = c.in-Some.columns in
-    let rows = c.in-Some-side-of.rows in
+    let rows = c.in-Some-side_of.rows in
     let on = sym (ap (λ (n : ℕ). spanned n c.args.corner columns rows) c.span.ensures) ∙ sym c.if-not-fits.ensures in
-    ((w.2, h.2, w.3, h.3), corner_within c.args.corner columns rows w.2 h.2 m.span 1_000_000_000 laws.span_high on, all_within c.args.corner columns rows w.2 h.2 m.span on)
+    (record { le_width = (w.2, h.2, w.3, h.3); within = corner_within c.args.corner columns rows w.2 h.2 m.span 1_000_000_000 laws.span_high on; within_2 = all_within c.args.corner columns rows w.2 h.2 m.span on })
 
 pub returns-in-Ok : goal.returns-in-Ok
 returns-in-Ok g c =
@@ -35,9 +35,9 @@ returns-in-Ok g c =
     let fw = c.ranges.width in
     let fh = c.ranges.height in
     let w = simp to_z-of_z at c.in-Some.ensures in
-    let h = simp to_z-of_z at c.in-Some-side-of.ensures in
+    let h = simp to_z-of_z at c.in-Some-side_of.ensures in
     let columns = c.in-Some.columns in
-    let rows = c.in-Some-side-of.rows in
+    let rows = c.in-Some-side_of.rows in
     let on = sym (ap (λ (n : ℕ). spanned n c.args.corner columns rows) c.span.ensures) ∙ sym c.if-not-fits.ensures in
     all_met m (g.met.S.Symmetry.lawful c.args.symmetry.now) c.args.corner c.args.width c.args.height columns rows w.1 h.1 w.0 h.0 w.2 h.2 _ on c.in-Ok.ensures
 
@@ -47,8 +47,8 @@ returns-in-Err g c =
     let fw = c.ranges.width in
     let fh = c.ranges.height in
     let w = simp to_z-of_z at c.in-Some.ensures in
-    let h = simp to_z-of_z at c.in-Some-side-of.ensures in
+    let h = simp to_z-of_z at c.in-Some-side_of.ensures in
     let columns = c.in-Some.columns in
-    let rows = c.in-Some-side-of.rows in
+    let rows = c.in-Some-side_of.rows in
     let on = sym (ap (λ (n : ℕ). spanned n c.args.corner columns rows) c.span.ensures) ∙ sym c.if-not-fits.ensures in
     no_memory m (g.met.S.Symmetry.lawful c.args.symmetry.now) c.args.corner c.args.width c.args.height columns rows w.1 h.1 w.0 h.0 w.2 h.2 on

@@ -6,5 +6,5 @@ use Rattle.groups.proofs.homes.kinds.Given as goal
 
 abbrev pub invariant-loop-k : goal.invariant-loop-k
 invariant-loop-k l =
-    ((l.proper_alone || some (carries l.p l.q l.at l.home false) (rows_from (l.end - l.k) l.k)) ≡ some (carries l.p l.q l.at l.home false) (rows l.number))
-    × ((l.even-improper || some (carries l.p l.q l.at l.home true) (rows_from (l.end - l.k) l.k)) ≡ some (carries l.p l.q l.at l.home true) (rows l.number))
+    ((l.even_proper || some (carries l.p l.q l.at l.home false) (rows_from (l.end - l.k) l.k)) ≡ some (carries l.p l.q l.at l.home false) (rows l.number))
+    × ((l.even_improper || some (carries l.p l.q l.at l.home true) (rows_from (l.end - l.k) l.k)) ≡ some (carries l.p l.q l.at l.home true) (rows l.number))

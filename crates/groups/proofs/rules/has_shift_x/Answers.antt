@@ -7,14 +7,14 @@ use Rattle.groups.proofs.Walking.{rows_start, some_here, some_later, is_zero, bi
 use Rattle.groups.proofs.rules.has_shift_x.Goals as goal
 
 pub loop-k-init : goal.loop-k-init
-loop-k-init c = ap (some shifts_x) (rows_start c.args.number c.first-row-k.result c.end-row-end.result c.first-row-k.ensures c.end-row-end.ensures.value)
+loop-k-init c = ap (some shifts_x) (rows_start c.args.number c.first_row-k.result c.end_row-end.result c.first_row-k.ensures c.end_row-end.ensures.value)
 
 pub returns-then-position-ne0 : goal.returns-then-position-ne0
 returns-then-position-ne0 c =
-    some_here shifts_x c.end-row-end.result c.loop-k.k (some shifts_x (rows c.args.number)) c.loop-k-test.true c.loop-k.invariant
+    some_here shifts_x c.end_row-end.result c.loop-k.k (some shifts_x (rows c.args.number)) c.loop-k-test.true c.loop-k.invariant
     (ap shifts_x (sym c.position.ensures.value) ∙ bits_nonzero c.position.result.s c.if-position-ne0.true)
 
 pub loop-k-preserved : goal.loop-k-preserved
 loop-k-preserved c =
-    some_later shifts_x c.end-row-end.result c.loop-k.k (some shifts_x (rows c.args.number)) c.loop-k-test.true c.loop-k.invariant
+    some_later shifts_x c.end_row-end.result c.loop-k.k (some shifts_x (rows c.args.number)) c.loop-k-test.true c.loop-k.invariant
     (ap shifts_x (sym c.position.ensures.value) ∙ is_zero c.position.result.s (bits_zero c.position.result.s c.position.ensures.small.s c.if-position-ne0.false))

@@ -29,8 +29,8 @@ loop-i-preserved g c =
     let m = g.S.Symmetry.meaning c.args.symmetry.now in
     let first = g.C.Canvas.board c.open-sheet.new.canvas in
     let h : c.loop-i.i < length c.loop-i.drawing = omega arith in
-    let long : length c.draw_answer.new.output ≡ length c.args.output.now = omega arith in
-    (along_put m first.frame first.seats c.args.palette.now c.args.output.now (classes m (g.met.S.Symmetry.lawful c.args.symmetry.now)) c.loop-i.drawing c.loop-i.i _ c.draw_answer.result c.loop-i.sheet.strokes c.draw_answer.new.sheet.strokes (g.C.Canvas.board c.loop-i.canvas) (g.C.Canvas.board c.draw_answer.new.canvas) c.loop-i.at c.past-at.result c.loop-i.output c.draw_answer.new.output h c.loop-i.invariant.0 c.draw_answer.ensures.answer c.draw_answer.ensures.sheet c.draw_answer.ensures.after (c.past-at.ensures ∙ ap₂ (λ n r. past n c.loop-i.at r) long c.drawing_room.ensures) c.draw_answer.ensures.output, map-set_same (λ (e : Drawn). e.call) c.loop-i.drawing c.loop-i.i _ _ refl ∙ c.loop-i.invariant.1)
+    let long : length c.draw-answer.new.output ≡ length c.args.output.now = omega arith in
+    (along_put m first.frame first.seats c.args.palette.now c.args.output.now (classes m (g.met.S.Symmetry.lawful c.args.symmetry.now)) c.loop-i.drawing c.loop-i.i _ c.draw-answer.result c.loop-i.sheet.strokes c.draw-answer.new.sheet.strokes (g.C.Canvas.board c.loop-i.canvas) (g.C.Canvas.board c.draw-answer.new.canvas) c.loop-i.at c.past-at.result c.loop-i.output c.draw-answer.new.output h c.loop-i.invariant.0 c.draw-answer.ensures.answer c.draw-answer.ensures.sheet c.draw-answer.ensures.after (c.past-at.ensures ∙ ap₂ (λ n r. past n c.loop-i.at r) long c.drawing_room.ensures) c.draw-answer.ensures.output, map-set_same (λ (e : Drawn). e.call) c.loop-i.drawing c.loop-i.i _ _ refl ∙ c.loop-i.invariant.1)
 
 pub loop-j-init : goal.loop-j-init
 loop-j-init g c =
@@ -41,12 +41,12 @@ pub loop-j-preserved : goal.loop-j-preserved
 loop-j-preserved g c =
     let m = g.S.Symmetry.meaning c.args.symmetry.now in
     let h : c.loop-j.j < length c.loop-j.viewing = omega arith in
-    let long : length c.view_answer.new.output ≡ length c.loop-j.output = omega arith in (
+    let long : length c.view-answer.new.output ≡ length c.loop-j.output = omega arith in (
       λ frame seats before a.
           let b = c.loop-j.invariant.0 frame seats before a in
-          beyond_put m frame seats c.args.palette.now before (classes m (g.met.S.Symmetry.lawful c.args.symmetry.now)) c.loop-i.drawing c.loop-j.viewing c.loop-j.j _ c.view_answer.result c.close-closed.result.held c.close-closed.result.strokes (g.C.Canvas.board c.loop-i.canvas) c.loop-j.at c.past-at-in-loop-j.result c.loop-j.output c.view_answer.new.output h b c.view_answer.ensures.answer (c.past-at-in-loop-j.ensures ∙ ap₂ (λ n r. past n c.loop-j.at r) (long ∙ b.reached.long) c.viewing_room.ensures) c.view_answer.ensures.output,
+          beyond_put m frame seats c.args.palette.now before (classes m (g.met.S.Symmetry.lawful c.args.symmetry.now)) c.loop-i.drawing c.loop-j.viewing c.loop-j.j _ c.view-answer.result c.close-closed.result.held c.close-closed.result.strokes (g.C.Canvas.board c.loop-i.canvas) c.loop-j.at c.past-at-in-loop-j.result c.loop-j.output c.view-answer.new.output h b c.view-answer.ensures.answer (c.past-at-in-loop-j.ensures ∙ ap₂ (λ n r. past n c.loop-j.at r) (long ∙ b.reached.long) c.viewing_room.ensures) c.view-answer.ensures.output,
       map-set_same (λ (e : Viewed). e.call) c.loop-j.viewing c.loop-j.j _ _ refl ∙ c.loop-j.invariant.1,
-      subst (λ n. n ≤ length c.view_answer.new.output) (sym c.past-at-in-loop-j.ensures) (past_low (length c.view_answer.new.output) c.loop-j.at c.viewing_room.result),
+      subst (λ n. n ≤ length c.view-answer.new.output) (sym c.past-at-in-loop-j.ensures) (past_low (length c.view-answer.new.output) c.loop-j.at c.viewing_room.result),
     )
 
 pub returns-in-None : goal.returns-in-None

@@ -31,14 +31,14 @@ module _ (v : Vectors) (told : None ≡ refusal v) (a b : Upright) (ea : a ≡ r
       let f : t ≡ reduction v = e ∙ ap (λ (r : Upright). euclid b.y r.x r.y b.x b.y) ea ∙ ap (λ (r : Upright). euclid r.y (upright v.ax v.ay) (nat_abs v.ay) r.x r.y) eb in
       (ap Ok f ∙ ap (λ r. unless r (reduction v)) told, subst (Reduces v) (sym f) (reduces v (area_some v (accepted v told).1)))
 
-pub turn-upright-requires : goal.turn-upright-requires
-turn-upright-requires c =
+pub turn_upright-requires : goal.turn_upright-requires
+turn_upright-requires c =
     let held : Vectors = record { ax = z64 c.args.ax; ay = z64 c.args.ay; bx = z64 c.args.bx; by = z64 c.args.by } in
     let s = small_is held (accepted held c.in_default.ensures).0 in
     (s.ax, s.ay)
 
-pub turn-upright-requires-2 : goal.turn-upright-requires-2
-turn-upright-requires-2 c =
+pub turn_upright-requires-2 : goal.turn_upright-requires-2
+turn_upright-requires-2 c =
     let held : Vectors = record { ax = z64 c.args.ax; ay = z64 c.args.ay; bx = z64 c.args.bx; by = z64 c.args.by } in
     let s = small_is held (accepted held c.in_default.ensures).0 in
     (s.bx, s.by)
@@ -46,7 +46,7 @@ turn-upright-requires-2 c =
 pub euclid-requires : goal.euclid-requires
 euclid-requires c =
     let held : Vectors = record { ax = z64 c.args.ax; ay = z64 c.args.ay; bx = z64 c.args.bx; by = z64 c.args.by } in
-    bounded held c.in_default.ensures c.turn-upright.result c.turn-upright-2.result c.turn-upright.ensures c.turn-upright-2.ensures
+    bounded held c.in_default.ensures c.turn_upright.result c.turn_upright-2.result c.turn_upright.ensures c.turn_upright-2.ensures
 
 pub returns : goal.returns
 returns c =
@@ -57,5 +57,5 @@ returns c =
       bx = to_z-of_z w64 c.args.bx c.ranges.bx i;
       by = to_z-of_z w64 c.args.by c.ranges.by i;
     } in
-    let k = subst (Promised c.euclid.result) same (promised held c.in_default.ensures c.turn-upright.result c.turn-upright-2.result c.turn-upright.ensures c.turn-upright-2.ensures c.euclid.result c.euclid.ensures) in
+    let k = subst (Promised c.euclid.result) same (promised held c.in_default.ensures c.turn_upright.result c.turn_upright-2.result c.turn_upright.ensures c.turn_upright-2.ensures c.euclid.result c.euclid.ensures) in
     record { outcome = k.0; reduces = k.1 }

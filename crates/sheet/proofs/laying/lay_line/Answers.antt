@@ -25,7 +25,7 @@ returns-in_err-lay g c =
     let whole = lay_all m (g.C.Canvas.board c.args.canvas.now) c.args.mark cells in
     let short : c.loop-i.i < length cells = omega (arith, c.cells-cells.ensures) in
     let t = c.in_err-lay.ensures in
-    let e = err_from_is_err_and c.from-residual.result c.from-residual.ensures.1 in
+    let e = err_from_is_err_and c.from_residual.result c.from_residual.ensures.1 in
     let w = ahead_stop m c.args.mark cells whole c.loop-i.i (g.C.Canvas.board c.loop-i.canvas) c.loop-i.invariant.1 c.cell.result line.to short c.cell.ensures c.in_err-lay.field-0.0 t.answer in
     record { answer = e.1 ∙ ap Err e.2 ∙ ap lay_answer w.1; count = c.loop-i.invariant.0 ∙ w.0; after = t.after ∙ w.2 }
 

@@ -51,8 +51,8 @@ returns-then-output-size g c =
     let w = refused_output m (g.C.Canvas.board c.args.canvas.now) c.args.corner c.args.width c.args.height c.args.palette.now c.args.output.now wide.0 high.0 inner c.if-palette-ne48.false (subst (λ n. length c.args.output.now < n) size c.if-output-size.true) in
     record { answer = w.answered; output = w.left }
 
-pub put-rows-requires : goal.put-rows-requires
-put-rows-requires g c =
+pub put_rows-requires : goal.put_rows-requires
+put_rows-requires g c =
     let m = g.S.Symmetry.meaning c.args.symmetry.now in
     let w = c.in_ok-wide.wide in
     let h = c.in_ok-high.high in
@@ -63,7 +63,7 @@ put-rows-requires g c =
     let one : 1 ≤ w = subst (λ n. 1 ≤ n) (sym wide.1) (side-least c.args.width wide.0) in
     let also : 1 ≤ h = subst (λ n. 1 ≤ n) (sym high.1) (side-least c.args.height high.0) in
     let near = corner_near m.span c.args.corner w h one also (all_within m.span cells inner) in
-    record { corner = (omega (arith, near.0, c.span.ensures, c.span.type-inv), omega (arith, near.1, c.span.ensures, c.span.type-inv)); within = all_within m.span cells inner; palette = c.if-palette-ne48.false; room = omega (arith, c.put-header-start.ensures.next, c.picture-size-size.ensures, c.if-output-size.false) }
+    record { corner = (omega (arith, near.0, c.span.ensures, c.span.type_inv), omega (arith, near.1, c.span.ensures, c.span.type_inv)); within = all_within m.span cells inner; palette = c.if-palette-ne48.false; room = omega (arith, c.put_header-start.ensures.next, c.picture_size-size.ensures, c.if-output-size.false) }
 
 pub returns : goal.returns
 returns g c =

@@ -8,30 +8,30 @@ use Rattle.groups.specs.Tabled.{InRepeat, tabled}
 use Rattle.census.specs.Homes.{Homes}
 use Rattle.census.specs.Census.{cell_at}
 use Rattle.census.proofs.repeats.Census.of.Goals as goal
-use Rattle.census.proofs.repeats.Census.of.Goals.{in-Some+then-on-mirror, in-Some+else-on-mirror, in_default}
+use Rattle.census.proofs.repeats.Census.of.Goals.{in-Some+then-on_mirror, in-Some+else-on_mirror, in_default}
 
 pub loop-k-preserved : goal.loop-k-preserved
 loop-k-preserved c =
     let g = c.args.group.now in
     let k = c.loop-k.k in
     let home = home_in g.number g.p g.q in
-    let at : c.cell-at.result ≡ cell_at g.p k = c.cell-at.ensures ∙ ap (λ (p : ℕ). cell_at p k) c.p-p.ensures in
-    let mirror : (z : Kinds) → z ≡ kinds_in g.number g.p g.q c.cell-at.result → on_mirror (kinds_in g.number g.p g.q (cell_at g.p k)) ≡ on_mirror z =
+    let at : c.cell_at.result ≡ cell_at g.p k = c.cell_at.ensures ∙ ap (λ (p : ℕ). cell_at p k) c.p-p.ensures in
+    let mirror : (z : Kinds) → z ≡ kinds_in g.number g.p g.q c.cell_at.result → on_mirror (kinds_in g.number g.p g.q (cell_at g.p k)) ≡ on_mirror z =
     λ z e. ap on_mirror (ap (kinds_in g.number g.p g.q) (sym at) ∙ sym e) in
-    elim c.match-own-kinds.branch [
-      | in-Some+then-on-mirror w ↦
+    elim c.match-own_kinds.branch [
+      | in-Some+then-on_mirror w ↦
           let found = w.in-Some.ensures in
           let own = subst (λ (z : Cell). home z ≡ z) at found.0 in (
             many_more g.number g.p g.q k c.loop-k.classes own c.loop-k.invariant.0 ∙ sym w.classes-is,
-            mirrored_more g.number g.p g.q k c.loop-k.mirrored true own (mirror w.in-Some.kinds found.1 ∙ sym w.if-on-mirror.ensures) c.loop-k.invariant.1 ∙ add_comm 1 c.loop-k.mirrored ∙ sym w.mirrored-is,
+            mirrored_more g.number g.p g.q k c.loop-k.mirrored true own (mirror w.in-Some.kinds found.1 ∙ sym w.if-on_mirror.ensures) c.loop-k.invariant.1 ∙ add_comm 1 c.loop-k.mirrored ∙ sym w.mirrored-is,
             omega (arith, w.classes-is, w.mirrored-is, c.loop-k.invariant.2),
             omega (arith, w.classes-is, c.loop-k.invariant.3),
           )
-      | in-Some+else-on-mirror w ↦
+      | in-Some+else-on_mirror w ↦
           let found = w.in-Some.ensures in
           let own = subst (λ (z : Cell). home z ≡ z) at found.0 in (
             many_more g.number g.p g.q k c.loop-k.classes own c.loop-k.invariant.0 ∙ sym w.classes-is,
-            mirrored_more g.number g.p g.q k c.loop-k.mirrored false own (mirror w.in-Some.kinds found.1 ∙ sym w.if-on-mirror.ensures) c.loop-k.invariant.1 ∙ zero-add c.loop-k.mirrored ∙ sym w.mirrored-is,
+            mirrored_more g.number g.p g.q k c.loop-k.mirrored false own (mirror w.in-Some.kinds found.1 ∙ sym w.if-on_mirror.ensures) c.loop-k.invariant.1 ∙ zero-add c.loop-k.mirrored ∙ sym w.mirrored-is,
             omega (arith, w.classes-is, w.mirrored-is, c.loop-k.invariant.2),
             omega (arith, w.classes-is, c.loop-k.invariant.3),
           )

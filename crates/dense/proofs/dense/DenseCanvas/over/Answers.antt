@@ -13,23 +13,23 @@ wipe-requires c =
     let l = rows_fit (length c.args.bytes.now) c.side-wide.result c.rows-high.result c.rows-high.ensures in
     omega arith
 
-pub invariant-of-result : goal.invariant-of-result
-invariant-of-result c =
+pub invariant_of-result : goal.invariant_of-result
+invariant_of-result c =
     let e : c.from.result * c.from-2.result ≡ c.side-wide.result * c.rows-high.result = cc in
     let l = rows_fit (length c.args.bytes.now) c.side-wide.result c.rows-high.result c.rows-high.ensures in
-    let a : Area = record { x = to_z w32 (of_z w32 c.args.corner-x); y = to_z w32 (of_z w32 c.args.corner-y); width = c.side-wide.result; height = c.rows-high.result } in
+    let a : Area = record { x = to_z w32 (of_z w32 c.args.corner_x); y = to_z w32 (of_z w32 c.args.corner_y); width = c.side-wide.result; height = c.rows-high.result } in
     let w = wiped a c.args.bytes.now 0 (c.from.result * c.from-2.result) c.wipe.new.bytes e l c.wipe.ensures in
-    (w.1, (w.2, (w.3, tt)))
+    record { long = w.1; small = w.2; counted = w.3 }
 
 pub returns : goal.returns
 returns c =
-    let fx : SFits w32 c.args.corner-x = search rules in
-    let fy : SFits w32 c.args.corner-y = search rules in
+    let fx : SFits w32 c.args.corner_x = search rules in
+    let fy : SFits w32 c.args.corner_y = search rules in
     let fw : SFits w64 c.args.width = search rules in
     let n = length c.args.bytes.now in
     let e : c.from.result * c.from-2.result ≡ c.side-wide.result * c.rows-high.result = cc in
     let l = rows_fit n c.side-wide.result c.rows-high.result c.rows-high.ensures in
-    let a : Area = record { x = to_z w32 (of_z w32 c.args.corner-x); y = to_z w32 (of_z w32 c.args.corner-y); width = c.side-wide.result; height = c.rows-high.result } in
+    let a : Area = record { x = to_z w32 (of_z w32 c.args.corner_x); y = to_z w32 (of_z w32 c.args.corner_y); width = c.side-wide.result; height = c.rows-high.result } in
     let w = wiped a c.args.bytes.now 0 (c.from.result * c.from-2.result) c.wipe.new.bytes e l c.wipe.ensures in
-    let s : a ≡ area_of c.args.corner-x c.args.corner-y c.args.width n = area_is c.args.corner-x _ c.args.corner-y _ c.args.width n _ _ (to_z-of_z w32 c.args.corner-x fx) (to_z-of_z w32 c.args.corner-y fy) (c.side-wide.ensures ∙ ap side_of (to_z-of_z w64 c.args.width fw)) c.rows-high.ensures in
+    let s : a ≡ area_of c.args.corner_x c.args.corner_y c.args.width n = area_is c.args.corner_x _ c.args.corner_y _ c.args.width n _ _ (to_z-of_z w32 c.args.corner_x fx) (to_z-of_z w32 c.args.corner_y fy) (c.side-wide.ensures ∙ ap side_of (to_z-of_z w64 c.args.width fw)) c.rows-high.ensures in
     record { board = w.0 ∙ ap empty_board s; bytes = c.wipe.ensures ∙ ap (λ k. zeroed k c.args.bytes.now) (e ∙ ap size s) }

@@ -12,7 +12,7 @@ pub returns-in_err-name : goal.returns-in_err-name
 returns-in_err-name c =
     let d = c.args.self.now in
     let was = sym c.in_err-name.was ∙ c.spelled.ensures in
-    let q = err_from_is_err_and c.from-residual.result c.from-residual.ensures.1 in
+    let q = err_from_is_err_and c.from_residual.result c.from_residual.ensures.1 in
     record {
       answer = q.1 ∙ ap Err q.2 ∙ ap (λ (r : Result DyeName DyeRefused). answer_of r (dye_book d)) was;
       after = subst (λ (r : Result DyeName DyeRefused). after_of r (dye_book d) (dye_book d)) was refl;

@@ -16,7 +16,7 @@ returns-then-count-ge15 c =
 
 pub returns-in_err-insert : goal.returns-in_err-insert
 returns-in_err-insert c =
-    let w = no_record c.args.shelf.now c.args.name c.requires.sorted c.requires.numbered c.requires.each c.requires.few (record { name = c.args.name; ink = c.len-count.result + 1 }) refl (ap (λ k. k + 1) c.len-count.ensures.is) (sym c.in_default.ensures) c.insert.new.self c.insert.result c.in_err-insert.field-0.0 c.from-residual.result c.insert.ensures c.in_err-insert.was c.from-residual.ensures.1 in
+    let w = no_record c.args.shelf.now c.args.name c.requires.sorted c.requires.numbered c.requires.each c.requires.few (record { name = c.args.name; ink = c.len-count.result + 1 }) refl (ap (λ k. k + 1) c.len-count.ensures.is) (sym c.in_default.ensures) c.insert.new.self c.insert.result c.in_err-insert.field-0.0 c.from_residual.result c.insert.ensures c.in_err-insert.was c.from_residual.ensures.1 in
     record { answer = w.answers; after = w.book; sorted = w.sorted; numbered = w.numbered; each = w.each; few = w.few }
 
 pub returns : goal.returns

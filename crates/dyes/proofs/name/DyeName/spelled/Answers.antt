@@ -5,14 +5,14 @@ use Rattle.dyes.proofs.name.DyeName.spelled.Goals as goal
 
 pub returns-then-letter-lt97 : goal.returns-then-letter-lt97
 returns-then-letter-lt97 c =
-    let bytes = c.as-bytes-bytes.result.now in
+    let bytes = c.as_bytes-bytes.result.now in
     let a : c.loop-i.i < length bytes = search rules in
     let out : (get_or bytes c.loop-i.i 0 < 97) ⊎ (122 < get_or bytes c.loop-i.i 0) = elim c.then-letter-lt97.either [ inl l ↦ inl l | inr l ↦ inr l.1 ] in
-    refused_letter bytes c.loop-i.i a (not_letter (get_or bytes c.loop-i.i 0) out) ∙ ap spelled c.as-bytes-bytes.ensures.value
+    refused_letter bytes c.loop-i.i a (not_letter (get_or bytes c.loop-i.i 0) out) ∙ ap spelled c.as_bytes-bytes.ensures.value
 
 pub loop-i-preserved : goal.loop-i-preserved
 loop-i-preserved c =
-    let bytes = c.as-bytes-bytes.result.now in
+    let bytes = c.as_bytes-bytes.result.now in
     let a : c.loop-i.i < length bytes = search rules in
     let b : length bytes ≤ 8 = search rules in
     let low : 97 ≤ get_or bytes c.loop-i.i 0 = search rules in
@@ -23,9 +23,9 @@ loop-i-preserved c =
 
 pub returns : goal.returns
 returns c =
-    let bytes = c.as-bytes-bytes.result.now in
+    let bytes = c.as_bytes-bytes.result.now in
     let a : 1 ≤ length bytes = search rules in
     let b : length bytes ≤ 8 = search rules in
     let l : length bytes ≤ c.loop-i.i = search rules in
     let m : c.loop-i.i ≤ length bytes = search rules in
-    named bytes c.loop-i.i c.loop-i.letters a b l m c.loop-i.invariant.0 c.loop-i.invariant.1 ∙ ap spelled c.as-bytes-bytes.ensures.value
+    named bytes c.loop-i.i c.loop-i.letters a b l m c.loop-i.invariant.0 c.loop-i.invariant.1 ∙ ap spelled c.as_bytes-bytes.ensures.value

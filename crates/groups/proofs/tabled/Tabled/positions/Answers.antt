@@ -6,5 +6,5 @@ use Rattle.groups.proofs.tabled.Tabled.positions.Goals as goal
 pub returns : goal.returns
 returns c =
     let first = c.first_row.result in
-    let end = c.end-row.result in
-    sym (rows-length first end) ∙ ap length (rows_start c.args.self.now.number first end c.first_row.ensures c.end-row.ensures.value)
+    let end = c.end_row.result in
+    sym (rows-length first end) ∙ ap length (rows_start c.args.self.now.number first end c.first_row.ensures c.end_row.ensures.value)

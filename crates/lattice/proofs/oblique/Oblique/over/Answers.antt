@@ -7,12 +7,12 @@ use Rattle.lattice.proofs.Accepting.{accepted, answered}
 use Rattle.lattice.specs.Boxing.{homes_in_box}
 use Rattle.lattice.proofs.oblique.Oblique.over.Goals as goal
 
-pub invariant-of-result : goal.invariant-of-result
-invariant-of-result c =
+pub invariant_of-result : goal.invariant_of-result
+invariant_of-result c =
     let held : Vectors = record { ax = z64 c.args.ax; ay = z64 c.args.ay; bx = z64 c.args.bx; by = z64 c.args.by } in
     let a = answered held c.in-Ok.reduced c.in-Ok.ensures.outcome in
     let k = accepted held a.0 in
-    (k.0, (k.1, ((ap (λ (t : Reduced). t.p) a.1, ap (λ (t : Reduced). t.b) a.1, ap (λ (t : Reduced). t.d) a.1), tt)))
+    record { short = k.0; apart = k.1; found = (ap (λ (t : Reduced). t.p) a.1, ap (λ (t : Reduced). t.b) a.1, ap (λ (t : Reduced). t.d) a.1) }
 
 pub returns-in-Ok : goal.returns-in-Ok
 returns-in-Ok c =

@@ -20,5 +20,5 @@ home-requires c =
       omega (arith, f.0, wide, bound),
       omega (arith, f.2, r.height),
       omega (arith, f.2, high, bound),
-      inside_within 1_000_000 c.args.at (sym c.if-not-is-within.ensures),
+      inside_within 1_000_000 c.args.at (sym c.if-not-is_within.ensures),
     )

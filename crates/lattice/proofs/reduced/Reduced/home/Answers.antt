@@ -14,18 +14,18 @@ returns c =
     let t = c.args.self in
     let x = c.args.at.x in
     let y = c.args.at.y in
-    let rows = c.floor-div-rows.result in
+    let rows = c.floor_div-rows.result in
     let p : to_z w64 t.p ≡ pos t.p = unsigned t.p c.requires.1 in
     let b : to_z w64 t.b ≡ pos t.b = unsigned t.b (omega (arith, c.requires.0, c.requires.1)) in
     let d : to_z w64 t.d ≡ pos t.d = unsigned t.d c.requires.3 in
     let ty : z64 y ≡ y = through_64 y (omega (arith, c.requires.4.1)) in
     -- the row, and how many rows of the reduced vectors were taken from it
-    let row : c.floor-mod-y.result ≡ pos (floor_mod y t.d) = c.floor-mod-y.ensures ∙ ap₂ (λ z n. pos (floor_mod z n)) ty (ap nat_abs d) in
-    let taken : rows ≡ floor_div y t.d = c.floor-div-rows.ensures ∙ ap₂ (λ z n. floor_div z n) ty (ap nat_abs d) in
-    let columns : c.product.result ≡ floor_div y t.d *ℤ pos t.b = c.product.ensures.value ∙ ap₂ ◌*ℤ◌ (to_z-of_z w64 rows (record { sfits = c.floor-div-rows.type-inv }) ∙ taken) b in
+    let row : c.floor_mod-y.result ≡ pos (floor_mod y t.d) = c.floor_mod-y.ensures ∙ ap₂ (λ z n. pos (floor_mod z n)) ty (ap nat_abs d) in
+    let taken : rows ≡ floor_div y t.d = c.floor_div-rows.ensures ∙ ap₂ (λ z n. floor_div z n) ty (ap nat_abs d) in
+    let columns : c.product.result ≡ floor_div y t.d *ℤ pos t.b = c.product.ensures.value ∙ ap₂ ◌*ℤ◌ (to_z-of_z w64 rows (record { sfits = c.floor_div-rows.type_inv }) ∙ taken) b in
     -- the column
     let corrected = difference_is x c.product.result (omega (arith, c.requires.4.0)) c.product.ensures.bound ∙ ap (λ k. x -ℤ k) columns in
-    let column : c.floor-mod-x.result ≡ pos (floor_mod (x -ℤ floor_div y t.d *ℤ pos t.b) t.p) = c.floor-mod-x.ensures ∙ ap₂ (λ z n. pos (floor_mod z n)) corrected (ap nat_abs p) in
+    let column : c.floor_mod-x.result ≡ pos (floor_mod (x -ℤ floor_div y t.d *ℤ pos t.b) t.p) = c.floor_mod-x.ensures ∙ ap₂ (λ z n. pos (floor_mod z n)) corrected (ap nat_abs p) in
     same-cell
-    (to_z-of_z w64 c.floor-mod-x.result (record { sfits = c.floor-mod-x.type-inv }) ∙ column)
-    (to_z-of_z w64 c.floor-mod-y.result (record { sfits = c.floor-mod-y.type-inv }) ∙ row)
+    (to_z-of_z w64 c.floor_mod-x.result (record { sfits = c.floor_mod-x.type_inv }) ∙ column)
+    (to_z-of_z w64 c.floor_mod-y.result (record { sfits = c.floor_mod-y.type_inv }) ∙ row)

@@ -6,11 +6,11 @@ use Rattle.pile.specs.Base.{based}
 use Rattle.pile.specs.Piling.{levelled_tried, grown_alike}
 use Rattle.pile.proofs.pile.Pile.push.Goals as goal
 
-pub invariant-of-self : goal.invariant-of-self
-invariant-of-self c =
+pub invariant_of-self : goal.invariant_of-self
+invariant_of-self c =
     let s = c.args.self.now in
     let l : Level = record { layer = c.args.layer; below = c.extent-below.result } in
-    (levelled_tried (is_ok c.push.result) (vec_items s.levels) (vec_items c.push.new.self) l (based s.base) c.push.ensures.items s.level c.extent-below.ensures, tt)
+    record { level = levelled_tried (is_ok c.push.result) (vec_items s.levels) (vec_items c.push.new.self) l (based s.base) c.push.ensures.items s.level c.extent-below.ensures }
 
 pub returns-in-Ok : goal.returns-in-Ok
 returns-in-Ok c =

@@ -4,15 +4,15 @@ use Rattle.sheet.specs.Strokes.{strokes_after, told}
 use Rattle.sheet.proofs.Strikes.{room_for, strokes_counted}
 use Rattle.sheet.proofs.sheet.OpenSheet.dot.Goals as goal
 
-pub strokes-after-self-requires : goal.strokes-after-self-requires
-strokes-after-self-requires g c = λ some.
-    room_for (g.S.Symmetry.meaning c.args.symmetry.now) c.args.self.now.strokes (g.C.Canvas.board c.args.canvas.now) (marked c.args.ink) c.args.at c.args.at (c.args.at ∷ []) (subst (λ n. 0 < n) c.draw-dot-result.ensures.count some)
+pub strokes_after-self-requires : goal.strokes_after-self-requires
+strokes_after-self-requires g c = λ some.
+    room_for (g.S.Symmetry.meaning c.args.symmetry.now) c.args.self.now.strokes (g.C.Canvas.board c.args.canvas.now) (marked c.args.ink) c.args.at c.args.at (c.args.at ∷ []) (subst (λ n. 0 < n) c.draw_dot-result.ensures.count some)
 
 pub returns : goal.returns
 returns g c =
-    let t = c.draw-dot-result.ensures in
+    let t = c.draw_dot-result.ensures in
     record {
       answer = c.tell.ensures ∙ ap₂ told t.answer t.count;
-      sheet = c.strokes-after-self.ensures ∙ ap (strokes_after c.args.self.now.strokes) t.count ∙ strokes_counted (g.S.Symmetry.meaning c.args.symmetry.now) c.args.self.now.strokes (g.C.Canvas.board c.args.canvas.now) (marked c.args.ink) c.args.at c.args.at (c.args.at ∷ []);
+      sheet = c.strokes_after-self.ensures ∙ ap (strokes_after c.args.self.now.strokes) t.count ∙ strokes_counted (g.S.Symmetry.meaning c.args.symmetry.now) c.args.self.now.strokes (g.C.Canvas.board c.args.canvas.now) (marked c.args.ink) c.args.at c.args.at (c.args.at ∷ []);
       after = t.after;
     }

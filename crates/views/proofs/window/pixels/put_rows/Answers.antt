@@ -11,8 +11,8 @@ loop-row-init g c =
     let xs = c.args.output.now in
     (omega arith, sym (ap (λ ps. placed xs c.args.at (pixels-of ps)) (window_none c.args.corner c.args.width) ∙ placed_none xs c.args.at))
 
-pub put-row-next-requires : goal.put-row-next-requires
-put-row-next-requires g c =
+pub put_row-next-requires : goal.put_row-next-requires
+put_row-next-requires g c =
     let span = (g.S.Symmetry.meaning c.args.symmetry.now).span in
     let width = c.args.width in
     let row = c.loop-row.row in

@@ -3,8 +3,8 @@ use Rattle.plane.specs.Cells.{inside}
 use Rattle.views.proofs.Corners.{corner_in, corner_out}
 use Rattle.views.proofs.window.sizes.covers.Goals as goal
 
-pub returns-then-not-is-within : goal.returns-then-not-is-within
-returns-then-not-is-within c = corner_out c.args.span c.args.corner c.args.width c.args.height c.requires.0 c.requires.1 (sym c.is-within.ensures ∙ c.if-not-is-within.true)
+pub returns-then-not-is_within : goal.returns-then-not-is_within
+returns-then-not-is_within c = corner_out c.args.span c.args.corner c.args.width c.args.height c.requires.0 c.requires.1 (sym c.is_within.ensures ∙ c.if-not-is_within.true)
 
 pub returns : goal.returns
 returns c =

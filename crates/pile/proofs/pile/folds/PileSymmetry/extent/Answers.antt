@@ -9,4 +9,4 @@ use Rattle.pile.proofs.pile.folds.PileSymmetry.extent.Goals as goal
 pub returns : goal.returns
 returns c =
     let s = c.args.self.now in
-    c.extent-of-top.ensures ∙ ap₂ (λ (ls : List Level) (e : Extent). top_extent ls e) c.as-slice.ensures.value c.extent-base.ensures ∙ sym (pile_extent (vec_items s.levels) (based s.base) s.level)
+    c.extent_of_top.ensures ∙ ap₂ (λ (ls : List Level) (e : Extent). top_extent ls e) c.as_slice.ensures.value c.extent-base.ensures ∙ sym (pile_extent (vec_items s.levels) (based s.base) s.level)

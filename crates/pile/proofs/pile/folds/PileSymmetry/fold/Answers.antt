@@ -30,18 +30,18 @@ pub returns-in_err-lowered : goal.returns-in_err-lowered
 returns-in_err-lowered c =
     let s = c.args.self.now in
     let ls = vec_items s.levels in
-    let h = err_from_is_err_and c.from-residual.result c.from-residual.ensures.1 in
-    h.1 ∙ ap Err h.2 ∙ off_levels ls c.as-slice-levels.result.now c.as-slice-levels.ensures.value (based s.base) c.args.at (pile_fold ls (based s.base) (base_laws s.base) s.level c.args.at) c.in_err-lowered.field-0.0 c.in_err-lowered.ensures
+    let h = err_from_is_err_and c.from_residual.result c.from_residual.ensures.1 in
+    h.1 ∙ ap Err h.2 ∙ off_levels ls c.as_slice-levels.result.now c.as_slice-levels.ensures.value (based s.base) c.args.at (pile_fold ls (based s.base) (base_laws s.base) s.level c.args.at) c.in_err-lowered.field-0.0 c.in_err-lowered.ensures
 
 pub returns-in_err-found : goal.returns-in_err-found
 returns-in_err-found c =
     let s = c.args.self.now in
     let ls = vec_items s.levels in
-    let h = err_from_is_err_and c.from-residual-in_err-found.result c.from-residual-in_err-found.ensures.1 in
-    h.1 ∙ ap Err h.2 ∙ off_base ls c.as-slice-levels.result.now c.as-slice-levels.ensures.value (based s.base) c.args.at (pile_fold ls (based s.base) (base_laws s.base) s.level c.args.at) c.in_ok-lowered.lowered c.in_err-found.field-0.0 c.in_ok-lowered.ensures c.in_err-found.ensures
+    let h = err_from_is_err_and c.from_residual-in_err-found.result c.from_residual-in_err-found.ensures.1 in
+    h.1 ∙ ap Err h.2 ∙ off_base ls c.as_slice-levels.result.now c.as_slice-levels.ensures.value (based s.base) c.args.at (pile_fold ls (based s.base) (base_laws s.base) s.level c.args.at) c.in_ok-lowered.lowered c.in_err-found.field-0.0 c.in_ok-lowered.ensures c.in_err-found.ensures
 
 pub returns : goal.returns
 returns c =
     let s = c.args.self.now in
     let ls = vec_items s.levels in
-    found ls c.as-slice-levels.result.now c.as-slice-levels.ensures.value (based s.base) c.args.at (pile_fold ls (based s.base) (base_laws s.base) s.level c.args.at) c.in_ok-lowered.lowered c.in_ok-found.found c.raise-through.result c.in_ok-lowered.ensures c.in_ok-found.ensures c.raise-through.ensures
+    found ls c.as_slice-levels.result.now c.as_slice-levels.ensures.value (based s.base) c.args.at (pile_fold ls (based s.base) (base_laws s.base) s.level c.args.at) c.in_ok-lowered.lowered c.in_ok-found.found c.raise_through.result c.in_ok-lowered.ensures c.in_ok-found.ensures c.raise_through.ensures
