@@ -1,5 +1,5 @@
 -- The homes of a window's cells, gathered cell by cell.
-use Rattle.std.proofs.Common.{◌≡◌, ℕ, zero, suc, ◌+◌, ◌-◌, ◌*◌, ◌/◌, ◌%◌, ◌<◌, ◌≤◌, Bool, true, false, ◌&&◌, T, eqb, ◌⊎◌, List, [], ◌∷◌, ℤ, pos, ◌+ℤ◌, nat_abs, sym, refl, ap, ◌∙◌, subst, ap₂, inl, inr, add-zero, mul-le-mul_right, mod-lt, suc-mul, mul_comm, div-lt_iff_lt-mul, add-one, arith, eqb→eq}
+use Rattle.std.proofs.Common.{◌≡◌, ℕ, zero, suc, ◌+◌, ◌-◌, ◌*◌, ◌/◌, ◌%◌, ◌<◌, ◌≤◌, Bool, true, false, ◌&&◌, T, eqb, ◌⊎◌, List, ℤ, pos, ◌+ℤ◌, nat_abs, sym, refl, ap, ◌∙◌, subst, ap₂, inl, inr, add-zero, mul-le-mul_right, mod-lt, suc-mul, mul_comm, div-lt_iff_lt-mul, add-one, arith, eqb→eq}
 use native.Mathlib.Nat.{div-eq_of_lt, mul-add-div_right}
 use borrow.Author.Differences.{ints}
 use borrow.Author.Tests.{eqb-false}
@@ -14,7 +14,7 @@ use Rattle.plane.proofs.Carrying.{carried_sym, carried_trans}
 use Rattle.plane.proofs.Folding.{inside_within, outside}
 use Rattle.groups.specs.Lists.{In}
 use Rattle.census.specs.Homes.{Distinct, Homes}
-use Rattle.census.specs.Windows.{InWindow, Met, Refuses, cell_of, met, noted, side, spanned}
+use Rattle.census.specs.Windows.{InWindow, Met, cell_of, met, noted, side, spanned}
 use Rattle.census.proofs.Noting.{noted_distinct, noted_kept, noted-has, noted_only}
 
 module _ (home : Cell → Cell) (corner : Cell) (width : ℕ) where

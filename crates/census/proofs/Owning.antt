@@ -1,17 +1,17 @@
 -- The cells of a repeat that are their own homes: one for each class.
-use Rattle.std.proofs.Common.{◌≡◌, ℕ, zero, suc, ◌+◌, ◌*◌, ◌/◌, ◌%◌, ◌<◌, ◌≤◌, Bool, true, false, cond, T, eqb, ◌⊎◌, List, [], ◌∷◌, length, pos, nat_abs, sym, refl, ap, ◌∙◌, subst, ap₂, inl, inr, add-zero, mul-le-mul_right, mod-lt, suc-mul, mul_comm, div-lt_iff_lt-mul, add-one, arith, eqb→eq}
+use Rattle.std.proofs.Common.{◌≡◌, ℕ, zero, suc, ◌+◌, ◌*◌, ◌/◌, ◌%◌, ◌<◌, Bool, true, false, cond, T, eqb, ◌⊎◌, List, [], ◌∷◌, length, pos, nat_abs, sym, refl, ap, ◌∙◌, subst, ap₂, inl, inr, add-zero, mul-le-mul_right, mod-lt, suc-mul, mul_comm, div-lt_iff_lt-mul, add-one, arith, eqb→eq}
 use native.Mathlib.Nat.{div-eq_of_lt, mod-add-div', mul-add-div_right}
 use borrow.Author.Tests.{eqb-false}
 use lib.Arith.{digits_mod}
 use Rattle.plane.specs.declared.cell.Cell.{Cell}
 use Rattle.plane.specs.Cells.{Within, same}
-use Rattle.plane.specs.Laws.{Carried, Lawful}
+use Rattle.plane.specs.Laws.{Lawful}
 use Rattle.plane.specs.Kinds.{on_mirror}
 use Rattle.plane.proofs.Algebra.{same-cell}
 use Rattle.plane.proofs.Order.{same_is, same_of, same_not}
 use Rattle.groups.specs.Lists.{In}
 use Rattle.groups.specs.Rules.{known, allowed}
-use Rattle.groups.specs.Tabled.{Operates, InRepeat, home_in, kinds_in, tabled}
+use Rattle.groups.specs.Tabled.{InRepeat, home_in, kinds_in, tabled}
 use Rattle.groups.specs.Homing.{tabled_laws, homes_least}
 use Rattle.groups.specs.Grouping.{rules}
 use Rattle.census.specs.Homes.{Distinct, Homes}

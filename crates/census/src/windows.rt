@@ -102,9 +102,9 @@ fn gather<S: Symmetry>(
     width: u32,
     height: u32,
 ) -> Result<Vec<Cell>, AllocError>
-    requires le_width { (1 ≤ width) × (1 ≤ height) × (width ≤ 128) × (height ≤ 128) }
-    requires within { Within 1_000_000_000 corner }
-    requires within_2 { (c : PlaneCell) → InWindow corner (pos width) (pos height) c → Within (S.Symmetry.meaning symmetry.now).span c }
+    requires sides { (1 ≤ width) × (1 ≤ height) × (width ≤ 128) × (height ≤ 128) }
+    requires corner { Within 1_000_000_000 corner }
+    requires cells { (c : PlaneCell) → InWindow corner (pos width) (pos height) c → Within (S.Symmetry.meaning symmetry.now).span c }
     ensures { IfOk result (λ v. v.items ≡ met (S.Symmetry.meaning symmetry.now).home corner width (width * height)) }
 {
     let cells = width * height;

@@ -1,5 +1,5 @@
 -- Where the rows of a group stand, and how large their numbers are: tests of the whole table.
-use Rattle.std.proofs.Common.{◌≡◌, ℕ, zero, suc, ◌+◌, ◌-◌, ◌*◌, ◌<◌, ◌≤◌, Bool, true, false, ◌&&◌, T, leb, List, [], ◌∷◌, get_or, ℤ, pos, negsuc, nat_abs, sym, refl, ap, ◌∙◌, subst, arith, leb→le, w8, w64, to_z, of_z}
+use Rattle.std.proofs.Common.{◌≡◌, ℕ, zero, suc, ◌≤◌, Bool, true, ◌&&◌, T, leb, List, [], ◌∷◌, get_or, ℤ, pos, nat_abs, arith, leb→le, w8, w64, to_z, of_z}
 use Rattle.std.proofs.lemmas.Int.{ints}
 use Rattle.groups.specs.Table.{numbers, starts, first_row, end_row}
 use Rattle.groups.specs.Rules.{known}

@@ -1,6 +1,5 @@
 -- How large the coordinates of an image are.
-use Rattle.std.proofs.Common.{◌≡◌, ℕ, ◌+◌, ◌≤◌, ℤ, ◌+ℤ◌, ◌*ℤ◌, nat_abs, sym, ap, ◌∙◌, mul-le-mul, arith}
-use borrow.Author.Differences.{ints}
+use Rattle.std.proofs.Common.{◌≤◌, ℤ, ◌+ℤ◌, ◌*ℤ◌, nat_abs, mul-le-mul, arith}
 use Rattle.ints.proofs.Laws.{abs-mul, abs-add}
 
 times_bound : (a x : ℤ) → nat_abs a ≤ 1 → nat_abs x ≤ 1_000_000 → nat_abs (a *ℤ x) ≤ 1_000_000

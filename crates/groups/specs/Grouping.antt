@@ -1,12 +1,11 @@
 -- The operations of a tabled group form a group.
-use Rattle.std.specs.Prelude.{◌≡◌, ℕ, zero, suc, ◌+◌, ◌-◌, ◌*◌, ◌/◌, ◌%◌, ◌<◌, ◌≤◌, Bool, true, false, not, ◌&&◌, ◌||◌, T, ◌⊎◌, List, [], ◌∷◌, ℤ, pos, negsuc, ◌+ℤ◌, ◌-ℤ◌, ◌*ℤ◌, neg_ℤ, ◌==◌, nat_le, refl}
-use Rattle.std.proofs.Common.{sym, ap, ap₂, ◌∙◌, subst, inl, inr, arith, leb→le, eqb→eq, le→leb}
-use Rattle.std.proofs.Math.Dec.{not_T}
+use Rattle.std.specs.Prelude.{◌≡◌, ℕ, ◌/◌, ◌%◌, ◌≤◌, Bool, true, false, not, ◌&&◌, T, [], ◌∷◌, ℤ, pos, negsuc, ◌+ℤ◌, ◌*ℤ◌, neg_ℤ, ◌==◌, nat_le, refl}
+use Rattle.std.proofs.Common.{sym, ap, ap₂, ◌∙◌, subst, arith, leb→le, eqb→eq}
 use Rattle.std.proofs.Math.IntN.{+ℤ_comm}
 use Rattle.std.proofs.lemmas.Int.{ints}
 use borrow.Author.Tests.{clash}
-use Rattle.ints.proofs.Ring.{E, var, lit, ◌⊕◌, ◌⊖◌, ◌⊗◌, neg, ring, ring_by, hyp, Hyp}
-use Rattle.plane.specs.Operation.{Operation, carry, compose, identity, determinant, translation, turned, Unimodular}
+use Rattle.ints.proofs.Ring.{var, lit, ◌⊕◌, ◌⊖◌, ◌⊗◌, ring_by, hyp}
+use Rattle.plane.specs.Operation.{Operation, compose, identity, translation, turned, Unimodular}
 use Rattle.plane.specs.Laws.{Group}
 use Rattle.plane.proofs.Algebra.{same_operation}
 use Rattle.groups.specs.declared.position.Position.{Position}
@@ -18,7 +17,6 @@ use Rattle.groups.specs.Rules.{shifts_x, shifts_y, needs, period, allowed}
 use Rattle.groups.specs.Positions.{operation}
 use Rattle.groups.specs.Tabled.{Operates}
 use Rattle.groups.specs.Members.{both_left, both_right, true_T, in_some}
-use Rattle.groups.specs.Closing.{table_closed}
 
 -- ---- what the rules of the periods say of each position
 pub record Fit (p q : ℕ) (r : Position) : Type 0 where

@@ -1,24 +1,20 @@
 -- The laws of homes.
-use Rattle.std.specs.Prelude.{◌≡◌, ℕ, zero, suc, ◌+◌, ◌-◌, ◌*◌, ◌/◌, ◌%◌, ◌<◌, ◌≤◌, Bool, true, false, cond, not, ◌&&◌, ◌||◌, T, ◌⊎◌, List, [], ◌∷◌, ℤ, pos, negsuc, ◌+ℤ◌, ◌-ℤ◌, ◌*ℤ◌, neg_ℤ, nat_le, unsigned_abs, refl}
-use Rattle.std.proofs.Common.{sym, ap, ap₂, ◌∙◌, subst, inl, inr, arith, leb→le, eqb→eq, le→leb, lit≤}
-use Rattle.std.proofs.Math.Dec.{not_T}
-use Rattle.std.proofs.Math.IntN.{pos-ne-negsuc}
-use Rattle.std.proofs.lemmas.Int.{ints}
+use Rattle.std.specs.Prelude.{◌≡◌, ℕ, ◌/◌, ◌<◌, ◌≤◌, Bool, true, false, cond, not, T, ◌⊎◌, List, [], ◌∷◌, ℤ, pos, negsuc, ◌+ℤ◌, ◌-ℤ◌, ◌*ℤ◌, neg_ℤ, nat_le, unsigned_abs, refl}
+use Rattle.std.proofs.Common.{sym, ap, ◌∙◌, subst, inl, inr, arith, leb→le, lit≤}
 use borrow.Author.Tests.{clash}
-use Rattle.ints.specs.Floor.{floor_mod, floor_div, Splits, Cong}
+use Rattle.ints.specs.Floor.{floor_mod, floor_div}
 use Rattle.ints.proofs.Floor.{floor_lt, floor_eq, floor_is, floor_cong_to}
-use Rattle.ints.proofs.Ring.{E, var, lit, ◌⊕◌, ◌⊖◌, ◌⊗◌, neg, ring, ring_by, hyp, Hyp}
+use Rattle.ints.proofs.Ring.{var, lit, ◌⊕◌, ◌⊗◌, neg, ring, ring_by, hyp}
 use Rattle.plane.specs.declared.cell.Cell.{Cell}
-use Rattle.plane.specs.declared.kinds.Kinds.{Kinds}
-use Rattle.plane.specs.Operation.{Operation, carry, compose, identity, determinant, sign, negative}
+use Rattle.plane.specs.Operation.{Operation, carry, determinant, sign, negative}
 use Rattle.plane.specs.Cells.{earlier, same}
 use Rattle.plane.specs.Kinds.{has}
-use Rattle.plane.specs.Laws.{Group, Lawful, Carried, CarriedAs}
+use Rattle.plane.specs.Laws.{Lawful, Carried, CarriedAs}
 use Rattle.plane.proofs.Algebra.{same-cell, negative-sign}
 use Rattle.plane.proofs.Carrying.{carried_sym, carried_trans}
 use Rattle.groups.specs.declared.position.Position.{Position}
 use Rattle.groups.specs.Lists.{In, some}
-use Rattle.groups.specs.Table.{rows, unit, Product, Closed}
+use Rattle.groups.specs.Table.{rows, unit, Closed}
 use Rattle.groups.specs.Rules.{known, allowed}
 use Rattle.groups.specs.Positions.{operation, mirrors}
 use Rattle.groups.specs.Tabled.{Operates, reduced, image, first_of, least, home_in, carries, kinds_in, tabled, InRepeat, LeastImage, HomesLeast}

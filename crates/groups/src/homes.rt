@@ -42,7 +42,7 @@ fn along(a: i64, x: i64, b: i64, y: i64, s: i64, period: u32) -> i64
 
 // The image of a cell under a position, in the repeat.
 fn image(p: u32, q: u32, at: Cell, by: Position) -> Cell
-    requires le_p { (1 ≤ p) × (1 ≤ q) × (p ≤ 128) × (q ≤ 128) }
+    requires periods { (1 ≤ p) × (1 ≤ q) × (p ≤ 128) × (q ≤ 128) }
     requires within { Within 1_000_000 at }
     requires small { Small by }
     ensures { result ≡ image p q at by }
@@ -64,8 +64,8 @@ fn improper(by: Position) -> bool
 
 // The least image of a cell in the repeat.
 pub(crate) fn home(number: u32, p: u32, q: u32, at: Cell) -> Cell
-    requires number_value { known number ≡ true }
-    requires q_value { allowed number p q ≡ true }
+    requires listed { known number ≡ true }
+    requires suited { allowed number p q ≡ true }
     requires within { Within 1_000_000 at }
     ensures { result ≡ home_in number p q at }
 {
@@ -82,10 +82,10 @@ pub(crate) fn home(number: u32, p: u32, q: u32, at: Cell) -> Cell
 
 // The kinds of the operations that carry a cell to its home.
 pub(crate) fn kinds(number: u32, p: u32, q: u32, at: Cell, home: Cell) -> Kinds
-    requires number_value { known number ≡ true }
-    requires q_value { allowed number p q ≡ true }
+    requires listed { known number ≡ true }
+    requires suited { allowed number p q ≡ true }
     requires within { Within 1_000_000 at }
-    requires home_value { home ≡ home_in number p q at }
+    requires own { home ≡ home_in number p q at }
     ensures { result ≡ kinds_in number p q at }
 {
     let mut even_proper = false;

@@ -68,9 +68,9 @@ fn has_shift_y(number: u32) -> bool
 
 // Whether two periods suit the group.
 pub(crate) fn are_allowed(number: u32, p: u32, q: u32) -> bool
-    requires number_value { known number ≡ true }
-    requires p_value { period p ≡ true }
-    requires q_value { period q ≡ true }
+    requires listed { known number ≡ true }
+    requires column_period { period p ≡ true }
+    requires row_period { period q ≡ true }
     ensures { result ≡ allowed number p q }
 {
     if number >= 10 && p != q {

@@ -1,5 +1,5 @@
 -- The laws of an oblique symmetry.
-use Rattle.std.specs.Prelude.{◌≡◌, ℕ, ◌*◌, ◌<◌, ◌≤◌, Bool, true, false, not, [], ◌∷◌, ℤ, pos, negsuc, ◌+ℤ◌, ◌-ℤ◌, ◌*ℤ◌, nat_abs, refl}
+use Rattle.std.specs.Prelude.{◌≡◌, ℕ, ◌<◌, ◌≤◌, Bool, true, false, not, [], ◌∷◌, ℤ, pos, negsuc, ◌+ℤ◌, ◌-ℤ◌, ◌*ℤ◌, nat_abs, refl}
 use Rattle.std.proofs.Common.{sym, ap, ap₂, ◌∙◌, inl, arith, mul_comm, lit≤}
 use Rattle.std.proofs.Math.IntN.{pos-ne-negsuc}
 use Rattle.ints.proofs.Ring.{var, lit, ◌⊕◌, ◌⊖◌, ◌⊗◌, ring, ring_by, hyp}

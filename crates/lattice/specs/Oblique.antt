@@ -1,5 +1,5 @@
 -- The oblique symmetry of two vectors: what it means.
-use Rattle.std.specs.Prelude.{◌≡◌, ℕ, ◌<◌, true, false, ℤ, pos, ◌-ℤ◌, ◌*ℤ◌}
+use Rattle.std.specs.Prelude.{◌≡◌, ℕ, ◌<◌, true, false, pos, ◌-ℤ◌, ◌*ℤ◌}
 use Rattle.ints.specs.Floor.{floor_mod, floor_div}
 use Rattle.plane.specs.declared.cell.Cell.{Cell}
 use Rattle.plane.specs.declared.kinds.Kinds.{Kinds}

@@ -1,7 +1,7 @@
 -- A symmetry shifted by (u, v): each operation g becomes t g t⁻¹, where t is the translation by (u, v).
 --     reach    the larger of |u| and |v|
 --     short    the reach is at most 1000
-use Rattle.std.specs.Prelude.{ℕ, ◌+◌, ◌-◌, max, Bool, ℤ, ◌+ℤ◌, neg_ℤ, Result, nat_le, unsigned_abs}
+use Rattle.std.specs.Prelude.{ℕ, ◌+◌, ◌-◌, max, Bool, ◌+ℤ◌, neg_ℤ, Result, nat_le, unsigned_abs}
 use Rattle.plane.specs.declared.cell.Cell.{Cell}
 use Rattle.plane.specs.declared.fold.Extent.{Extent}
 use Rattle.plane.specs.Operation.{translation}

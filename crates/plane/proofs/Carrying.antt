@@ -1,5 +1,5 @@
 -- Being carried by an operation of a group is an equivalence of cells.
-use Rattle.std.proofs.Common.{◌≡◌, sym, ap, ◌∙◌}
+use Rattle.std.proofs.Common.{sym, ap, ◌∙◌}
 use Rattle.plane.specs.declared.cell.Cell.{Cell}
 use Rattle.plane.specs.Operation.{Operation, carry, compose, identity}
 use Rattle.plane.specs.Laws.{Group, Carried}

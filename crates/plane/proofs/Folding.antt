@@ -1,8 +1,7 @@
 -- What an answer of fold says, and how to make one.
-use Rattle.std.proofs.Common.{◌≡◌, ℕ, ◌≤◌, Bool, true, false, ◌&&◌, leb, nat_abs, Ok, Err, Result, sym, refl, ap, ◌∙◌, subst, arith, le-leb, leb-true}
+use Rattle.std.proofs.Common.{◌≡◌, ℕ, Bool, true, false, ◌&&◌, leb, nat_abs, Ok, Err, sym, refl, ap, ◌∙◌, arith, le-leb, leb-true}
 use borrow.Author.Tests.{both_ways}
 use Rattle.plane.specs.declared.cell.Cell.{Cell}
-use Rattle.plane.specs.declared.kinds.Kinds.{Kinds}
 use Rattle.plane.specs.declared.fold.Fold.{Fold}
 use Rattle.plane.specs.declared.fold.FoldRefused.{FoldRefused}
 use Rattle.plane.specs.declared.fold.FoldRefused.TheVariants.{OffSpan}

@@ -1,5 +1,5 @@
 -- The polynomial identities of operations, by the solver of the crate ints.
-use Rattle.std.proofs.Common.{◌≡◌, List, [], ◌∷◌, ℤ, ◌+ℤ◌, ◌-ℤ◌, ◌*ℤ◌}
+use Rattle.std.proofs.Common.{◌≡◌, [], ◌∷◌, ℤ, ◌+ℤ◌, ◌-ℤ◌, ◌*ℤ◌}
 use Rattle.ints.proofs.Ring.{var, ◌⊕◌, ◌⊖◌, ◌⊗◌, ring}
 
 -- the composition of two operations, and of two linear parts, at a point

@@ -1,5 +1,5 @@
 -- The order of cells is total: of two cells that are not one, one is earlier.
-use Rattle.std.proofs.Common.{◌≡◌, Bool, true, false, ◌&&◌, ◌||◌, T, eqb, ℤ, pos, negsuc, sym, refl, ap, ◌∙◌, subst, ap₂, arith, eqb→eq}
+use Rattle.std.proofs.Common.{◌≡◌, Bool, true, false, ◌&&◌, ◌||◌, T, ℤ, pos, negsuc, sym, refl, ap, subst, arith, eqb→eq}
 use lib.Dec.{eqb_refl}
 use lib.Signed.{lt_z, le_z}
 use borrow.Author.Differences.{ints}

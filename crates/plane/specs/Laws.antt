@@ -1,5 +1,5 @@
 -- What makes a set of operations, homes and kinds a symmetry.
-use Rattle.std.specs.Prelude.{◌≡◌, ℕ, ◌≤◌, Bool, true, ◌↔◌}
+use Rattle.std.specs.Prelude.{◌≡◌, ◌≤◌, Bool, true, ◌↔◌}
 use Rattle.plane.specs.declared.cell.Cell.{Cell}
 use Rattle.plane.specs.Cells.{Within}
 use Rattle.plane.specs.Operation.{Operation, carry, compose, identity, determinant, sign, turned, Unimodular}

@@ -1,4 +1,4 @@
-use Rattle.std.proofs.Common.{◌≡◌, ℕ, sym, ap, ◌∙◌}
+use Rattle.std.proofs.Common.{ℕ, sym, ap, ◌∙◌}
 use Rattle.std.proofs.lemmas.Int.{to_z-of_z}
 use Rattle.census.specs.Windows.{spanned}
 use Rattle.census.proofs.Meeting.{all_met, all_within, corner_within, no_memory, off_span}
@@ -27,7 +27,7 @@ gather-requires g c =
     let columns = c.in-Some.columns in
     let rows = c.in-Some-side_of.rows in
     let on = sym (ap (λ (n : ℕ). spanned n c.args.corner columns rows) c.span.ensures) ∙ sym c.if-not-fits.ensures in
-    (record { le_width = (w.2, h.2, w.3, h.3); within = corner_within c.args.corner columns rows w.2 h.2 m.span 1_000_000_000 laws.span_high on; within_2 = all_within c.args.corner columns rows w.2 h.2 m.span on })
+    (record { sides = (w.2, h.2, w.3, h.3); corner = corner_within c.args.corner columns rows w.2 h.2 m.span 1_000_000_000 laws.span_high on; cells = all_within c.args.corner columns rows w.2 h.2 m.span on })
 
 pub returns-in-Ok : goal.returns-in-Ok
 returns-in-Ok g c =

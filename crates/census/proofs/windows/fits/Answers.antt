@@ -1,4 +1,4 @@
-use Rattle.std.proofs.Common.{◌*◌, ◌≤◌, mul-le-mul, arith}
+use Rattle.std.proofs.Common.{mul-le-mul}
 use Rattle.census.proofs.windows.fits.Goals as goal
 
 pub overflow_sub-width : goal.overflow_sub-width

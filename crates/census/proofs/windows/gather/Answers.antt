@@ -1,4 +1,4 @@
-use Rattle.std.proofs.Common.{◌≡◌, vec_items, sym, ap, ◌∙◌, subst}
+use Rattle.std.proofs.Common.{vec_items, sym, ap, ◌∙◌, subst}
 use Rattle.plane.specs.declared.cell.Cell.{Cell}
 use Rattle.plane.specs.Cells.{Within}
 use Rattle.census.specs.Windows.{cell_of, noted}
@@ -10,7 +10,7 @@ note-requires g c =
     let width = c.args.width in
     let at = cell_of c.args.corner width c.loop-k.k in
     subst (Within (g.S.Symmetry.meaning c.args.symmetry.now).span) (sym c.cell_of.ensures)
-    (c.requires.within_2 at (in_window c.args.corner width c.args.height c.requires.le_width.0 c.requires.le_width.1 c.loop-k.k c.loop-k-test.true))
+    (c.requires.cells at (in_window c.args.corner width c.args.height c.requires.sides.0 c.requires.sides.1 c.loop-k.k c.loop-k-test.true))
 
 pub loop-k-preserved : goal.loop-k-preserved
 loop-k-preserved g c =

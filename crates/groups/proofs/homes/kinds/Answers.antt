@@ -1,6 +1,5 @@
-use Rattle.std.proofs.Common.{◌≡◌, ◌&&◌, int_eq, arith, Bool, true, false, sym, refl, ap, ◌∙◌, ap₂, rules}
+use Rattle.std.proofs.Common.{◌≡◌, ◌&&◌, int_eq, arith, true, false, sym, refl, ap, ◌∙◌, ap₂}
 use mathlib.Core.Bool.{or-true, or-false}
-use Rattle.groups.specs.declared.position.Position.{Position}
 use Rattle.groups.specs.Lists.{some}
 use Rattle.groups.specs.Positions.{mirrors}
 use Rattle.groups.specs.Tabled.{carries}
@@ -59,4 +58,4 @@ loop-k-preserved c =
     ]
 
 pub returns : goal.returns
-returns c = kinds_end c.args.number c.args.p c.args.q c.args.at c.args.home c.loop-k.even_proper c.loop-k.even_improper c.end_row-end.result c.loop-k.k c.loop-k-test.false c.requires.home_value c.loop-k.invariant.0 c.loop-k.invariant.1
+returns c = kinds_end c.args.number c.args.p c.args.q c.args.at c.args.home c.loop-k.even_proper c.loop-k.even_improper c.end_row-end.result c.loop-k.k c.loop-k-test.false c.requires.own c.loop-k.invariant.0 c.loop-k.invariant.1

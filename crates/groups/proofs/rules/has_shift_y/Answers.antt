@@ -1,5 +1,4 @@
-use Rattle.std.proofs.Common.{◌≡◌, sym, ap, ◌∙◌}
-use Rattle.groups.specs.declared.position.Position.{Position}
+use Rattle.std.proofs.Common.{sym, ap, ◌∙◌}
 use Rattle.groups.specs.Lists.{some}
 use Rattle.groups.specs.Table.{rows}
 use Rattle.groups.specs.Rules.{shifts_y}

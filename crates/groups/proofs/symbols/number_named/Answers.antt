@@ -1,8 +1,8 @@
-use Rattle.std.proofs.Common.{true, false, sym, refl, ◌∙◌}
+use Rattle.std.proofs.Common.{sym, refl, ◌∙◌}
 use borrow.Author.Tests.{both_ways}
 use Rattle.std.proofs.lemmas.Bool.Decides.{Decides-eqb}
 use Rattle.std.proofs.lemmas.Slice.Eq.{slice_eq-Decides}
-use Rattle.groups.specs.Symbols.{named_from, number_named}
+use Rattle.groups.specs.Symbols.{number_named}
 use Rattle.groups.proofs.Naming.{named_here, named_later}
 use Rattle.groups.proofs.symbols.number_named.Goals as goal
 

@@ -1,4 +1,4 @@
-use Rattle.std.proofs.Common.{◌≡◌, ℕ, ◌*◌, true, false, sym, refl, ap, ◌∙◌, subst, ap₂, add_comm, zero-add, arith}
+use Rattle.std.proofs.Common.{◌≡◌, ℕ, ◌*◌, true, false, sym, ap, ◌∙◌, subst, ap₂, add_comm, zero-add, arith}
 use Rattle.plane.specs.declared.cell.Cell.{Cell}
 use Rattle.plane.specs.declared.kinds.Kinds.{Kinds}
 use Rattle.plane.specs.Kinds.{on_mirror}

@@ -1,5 +1,4 @@
 use Rattle.std.proofs.Common.{length, sym, ap, ◌∙◌}
-use Rattle.groups.specs.Table.{rows}
 use Rattle.groups.proofs.Walking.{rows_start, rows-length}
 use Rattle.groups.proofs.tabled.Tabled.positions.Goals as goal
 

@@ -1,4 +1,4 @@
-use Rattle.std.proofs.Common.{◌≡◌, ℕ, ◌≤◌, ℤ, pos, ◌-ℤ◌, ◌*ℤ◌, nat_abs, ap, ◌∙◌, ap₂, arith, w64, to_z}
+use Rattle.std.proofs.Common.{◌≡◌, ℕ, ◌≤◌, pos, ◌-ℤ◌, ◌*ℤ◌, nat_abs, ap, ◌∙◌, ap₂, arith, w64, to_z}
 use borrow.Author.Differences.{ints}
 use Rattle.ints.specs.Floor.{floor_mod, floor_div}
 use Rattle.ints.proofs.Sizes.{z64, through_64, difference_is}
