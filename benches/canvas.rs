@@ -1,5 +1,5 @@
 // The same as crates/bench does with a sparse canvas, with Rust's BTreeMap and a sorted Vec.
-// rustc -O benches/canvas.rs -o target/canvas-rust && target/canvas-rust
+// rustc -O benches/canvas.rs -o /tmp/canvas-rust && /tmp/canvas-rust
 use std::collections::BTreeMap;
 use std::time::Instant;
 

@@ -1,5 +1,5 @@
 // The same as crates/bench_windows does with a sheet: for each cell the least of its twelve images in the repeat, and the ink there.
-// rustc -O benches/windows.rs -o target/windows-rust && target/windows-rust
+// rustc -O benches/windows.rs -o /tmp/windows-rust && /tmp/windows-rust
 use std::hint::black_box;
 use std::time::Instant;
 

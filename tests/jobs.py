@@ -1,4 +1,4 @@
-"""Random drawing jobs for the console, with valid and with damaged lines."""
+"""Random drawing jobs, with valid and with damaged lines."""
 from math import lcm
 
 FAR = [0, 2**31 - 1, 2**31, -(2**31), -(2**31) - 1, 999_999, 1_000_000, 1_000_001, -1_000_000, -1_000_001, 2**63 - 1, -(2**63)]

@@ -1,10 +1,10 @@
 #!/usr/bin/env python3
-"""A model of the console, written from docs/RULES.md alone.
+"""A model of the programs `console` and `drawing`, written from docs/RULES.md alone.
 
 A symmetry is its operations on a finite torus, and a sheet the ink of each cell of that torus: a cell is laid by
 writing to all its images. Homes are looked for among the images, and only where the rules speak of them.
 
-tests/model.py < JOB      prints what the console has to print; writes no windows
+tests/model.py < JOB      prints what `drawing` has to print; writes no windows
 tests/model.py --self     compares the model with the outside answers, and says how many agreed
 """
 import re
