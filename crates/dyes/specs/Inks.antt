@@ -1,5 +1,5 @@
 -- The inks of a list of dye records.
---     by-ink     the first record with an ink
+--     by_ink     the first record with an ink
 --     Numbered   each ink is from 1 to the number of records, and no two records share one
 --     Each       each ink from 1 to the number of records is there
 use Rattle.std.specs.Prelude.{◌≡◌, ℕ, ◌<◌, ◌≤◌, Bool, true, cond, not, ◌&&◌, List, [], ◌∷◌, length, is_some, Some, None, Option, ◌==◌, nat_le}

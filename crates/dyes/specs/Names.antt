@@ -1,6 +1,6 @@
 -- Names of dyes, as bytes.
 --     letter       a byte from a to z
---     well-formed  a text of one to eight letters
+--     well_formed  a text of one to eight letters
 --     filled       the text, filled up with 0 to eight bytes
 --     lexical      the order of byte strings by their first different byte, where an end is before every byte
 use Rattle.std.specs.Prelude.{◌≡◌, ℕ, ◌-◌, Bool, true, false, cond, ◌&&◌, List, [], ◌∷◌, ◌++◌, length, replicate, Ok, Err, Result, nat_le, nat_lt}

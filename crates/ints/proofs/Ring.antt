@@ -2,7 +2,7 @@
 --     E            an expression over variables, which are places in a list ρ of integers. `den ρ e` is its value
 --     norm e       its polynomial: a sum of terms, each a coefficient and a sorted list of variables, the terms sorted, no two alike
 --     ring ρ a b tt       : den ρ a ≡ den ρ b, where a and b are one polynomial
---     ring-by ρ hs a b tt : the same from equations. hs is a list of `hyp q l r h` with h : den ρ l ≡ den ρ r, and a - b is the sum of q * (l - r)
+--     ring_by ρ hs a b tt : the same from equations. hs is a list of `hyp q l r h` with h : den ρ l ≡ den ρ r, and a - b is the sum of q * (l - r)
 -- Assumes nothing.
 use Rattle.std.proofs.Common.{◌≡◌, ℕ, zero, suc, List, [], ◌∷◌, ℤ, pos, negsuc, ◌+ℤ◌, ◌-ℤ◌, ◌*ℤ◌, neg_ℤ, sym, refl, ap, ◌∙◌, ap₂, arith}
 use Prim.Native.Nat.{compare, Ordering}

@@ -86,10 +86,10 @@ pub(crate) fn strokes_after(strokes: u16, laid: u16) -> u16
 }
 
 // A result with the number of cells that were laid.
-pub(crate) fn tell(res: Result<(), StrokeRefused>, laid: u16) -> Result<u16, StrokeStopped>
-    ensures { result ≡ told res laid }
+pub(crate) fn tell(outcome: Result<(), StrokeRefused>, laid: u16) -> Result<u16, StrokeStopped>
+    ensures { result ≡ told outcome laid }
 {
-    match res {
+    match outcome {
         Ok(()) => Ok(laid),
         Err(refusal) => Err(StrokeStopped { refusal, laid }),
     }

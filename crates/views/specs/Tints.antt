@@ -1,5 +1,5 @@
 -- What the kinds of a cell do to an ink.
---     all-odd   every operation that carries the cell home is odd: the home has the counterpart of the cell's ink
+--     all_odd   every operation that carries the cell home is odd: the home has the counterpart of the cell's ink
 --     neutral   operations of both parities carry the cell home: it can only have an ink that is its own counterpart
 use Rattle.std.specs.Prelude.{ℕ, Bool, true, false, not, ◌&&◌, ◌||◌, ◌==◌}
 use Rattle.plane.specs.declared.kinds.Kinds.{Kinds}
