@@ -1,4 +1,4 @@
-"""The programs of the repository, built where they are not yet."""
+"""The programs of the repository, built from the sources as they stand."""
 import subprocess
 from pathlib import Path
 
@@ -6,8 +6,7 @@ ROOT = Path(__file__).resolve().parent.parent
 
 
 def built(name):
-    """The path of a program; the first call on a fresh machine proves and builds it."""
-    path = ROOT / "crates" / name / "out" / name
-    if not path.exists():
-        subprocess.run(["rt", "run"], cwd=ROOT / "crates" / name, stdin=subprocess.DEVNULL, stdout=subprocess.DEVNULL, check=True)
-    return path
+    """The path of a program, proved and built anew where its sources changed."""
+    crate = ROOT / "crates" / name
+    subprocess.run(["rt", "run"], cwd=crate, stdin=subprocess.DEVNULL, stdout=subprocess.DEVNULL, stderr=subprocess.DEVNULL, check=True)
+    return crate / "out" / name
