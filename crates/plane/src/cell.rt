@@ -2,11 +2,13 @@
 ghost use Rattle.std.specs.Prelude.{◌≡◌};
 ghost use Rattle.plane.specs.Cells.{inside, earlier};
 
-// A cell: `x` is its column, `y` its row.
-#[derive(Clone, Copy, PartialEq, Eq, Debug)]
+use ints::ranges::is_at_most;
+
+// A cell: `x` is its column, `y` its row. Cells are in the order of their rows, and within a row in that of their columns.
+#[derive(Clone, Copy, PartialEq, Eq, PartialOrd, Ord, Debug)]
 pub struct Cell {
-    pub x: i64,
     pub y: i64,
+    pub x: i64,
 }
 
 impl Cell {
@@ -14,13 +16,13 @@ impl Cell {
     pub fn is_within(self, reach: u32) -> bool
         ensures { result ≡ inside reach self }
     {
-        self.x.unsigned_abs() <= reach as u64 && self.y.unsigned_abs() <= reach as u64
+        is_at_most(self.x, reach) && is_at_most(self.y, reach)
     }
 
     // Whether the cell has a smaller row than the other, or the same row and a smaller column.
     pub fn precedes(self, other: Cell) -> bool
         ensures { result ≡ earlier self other }
     {
-        self.y < other.y || (self.y <= other.y && self.x < other.x)
+        self < other
     }
 }
