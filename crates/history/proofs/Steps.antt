@@ -9,7 +9,8 @@ use Rattle.canvas.specs.Board.{Board}
 use Rattle.lines.proofs.Cells.{line_within}
 use Rattle.views.specs.declared.refusal.WindowRefused.TheVariants.{Side, OffSpan, Palette, Output}
 use Rattle.views.specs.Shows.{shown}
-use Rattle.views.specs.Windows.{window_cells, picture, picture_size, wrong_side, window_answer, written_over, unless_refused, window_output}
+use Rattle.plane.specs.Rectangles.{window_cells, wrong_side}
+use Rattle.views.specs.Windows.{picture, picture_size, window_answer, written_over, unless_refused, window_output}
 use Rattle.views.proofs.Pixels.{picture-length}
 use Rattle.sheet.specs.Laying.{marked}
 use Rattle.ledger.specs.Ledgers.{Ledger}

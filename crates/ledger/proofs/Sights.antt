@@ -11,8 +11,9 @@ use Rattle.canvas.specs.Board.{Board}
 use Rattle.views.specs.declared.refusal.WindowRefused.{WindowRefused}
 use Rattle.views.specs.declared.refusal.WindowRefused.TheVariants.{Side, OffSpan, Palette, Output}
 use Rattle.views.specs.Shows.{shown, shown_if, shown_ink}
-use Rattle.views.specs.Windows.{window_cells, header, pixels, picture_size, wrong_side, window_refusal, windowed, window_answer, written_over, unless_refused, window_output}
-use Rattle.views.proofs.Cells.{all_within, within_all}
+use Rattle.plane.specs.Rectangles.{window_cells, wrong_side}
+use Rattle.views.specs.Windows.{header, pixels, picture_size, window_refusal, windowed, window_answer, written_over, unless_refused, window_output}
+use Rattle.plane.proofs.Rectangles.{all_within, within_all}
 use Rattle.views.proofs.Pixels.{picture-length}
 use Rattle.ledger.specs.Ledgers.{Ledger}
 use Rattle.ledger.specs.Feeding.{Setting, setting}

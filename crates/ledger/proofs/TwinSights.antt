@@ -8,7 +8,8 @@ use Rattle.sheet.specs.declared.mark.Mark.{Mark}
 use Rattle.views.specs.declared.refusal.WindowRefused.{WindowRefused}
 use Rattle.views.specs.declared.refusal.WindowRefused.TheVariants.{Side, OffSpan, Palette, Output}
 use Rattle.views.specs.Tints.{tinted}
-use Rattle.views.specs.Windows.{window_cells, header, colour, written_over}
+use Rattle.plane.specs.Rectangles.{window_cells}
+use Rattle.views.specs.Windows.{header, colour, written_over}
 use Rattle.ledger.specs.Ledgers.{Entry, Ledger}
 use Rattle.ledger.specs.Planes.{Shows, Inked, Makes, Fewest}
 use Rattle.ledger.specs.Feeding.{Setting, setting}

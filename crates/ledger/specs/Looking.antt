@@ -9,7 +9,8 @@ use Rattle.plane.specs.Operation.{Operation}
 use Rattle.plane.specs.Cells.{AllWithin, Within}
 use Rattle.views.specs.declared.refusal.WindowRefused.{WindowRefused}
 use Rattle.views.specs.declared.refusal.WindowRefused.TheVariants.{Side, OffSpan, Palette, Output}
-use Rattle.views.specs.Windows.{window_cells, header, colour, picture_size, written_over}
+use Rattle.plane.specs.Rectangles.{window_cells}
+use Rattle.views.specs.Windows.{header, colour, picture_size, written_over}
 use Rattle.ledger.specs.Ledgers.{Ledger}
 use Rattle.ledger.specs.Planes.{Shows}
 use Rattle.ledger.specs.Feeding.{Setting}

@@ -4,4 +4,6 @@
 pub mod cell;
 pub mod fold;
 pub mod kinds;
+pub mod rectangle;
 pub mod symmetry;
+pub mod window;

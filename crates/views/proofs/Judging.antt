@@ -8,7 +8,8 @@ use Rattle.plane.specs.Meaning.{Meaning}
 use Rattle.canvas.specs.Board.{Board}
 use Rattle.views.specs.declared.refusal.WindowRefused.{WindowRefused}
 use Rattle.views.specs.declared.refusal.WindowRefused.TheVariants.{Side, OffSpan, Palette, Output}
-use Rattle.views.specs.Windows.{picture, picture_size, side_of, unless_refused, window_answer, window_cells, window_output, window_refusal, windowed, written_over, wrong_side}
+use Rattle.plane.specs.Rectangles.{window_cells, wrong_side}
+use Rattle.views.specs.Windows.{picture, picture_size, side_of, unless_refused, window_answer, window_output, window_refusal, windowed, written_over}
 
 -- a side that is taken, and one that is not
 taken : (t : Bool) (n r : ℕ) → Ok r ≡ cond t (Err Side) (Ok n) → (t ≡ false) × (r ≡ n)

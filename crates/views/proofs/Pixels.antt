@@ -4,8 +4,9 @@ use Rattle.plane.specs.declared.cell.Cell.{Cell}
 use Rattle.plane.specs.Meaning.{Meaning}
 use Rattle.canvas.specs.Board.{Board}
 use Rattle.views.specs.Shows.{shown_ink}
-use Rattle.views.specs.Windows.{colour, header, picture, picture_size, pixels, placed, window_cells}
-use Rattle.views.proofs.Cells.{window_length}
+use Rattle.plane.specs.Rectangles.{window_cells}
+use Rattle.views.specs.Windows.{colour, header, picture, picture_size, pixels, placed}
+use Rattle.plane.proofs.Rectangles.{window_length}
 use Rattle.views.proofs.Placing.{placed-then}
 
 pub pixels-append : (m : Meaning) (b : Board) (palette : List ℕ) (ps qs : List Cell) → pixels m b palette (ps ++ qs) ≡ pixels m b palette ps ++ pixels m b palette qs

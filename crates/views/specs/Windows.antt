@@ -4,25 +4,12 @@
 use Rattle.std.specs.Prelude.{ℕ, zero, suc, ◌+◌, ◌*◌, ◌/◌, ◌%◌, Bool, cond, not, ◌||◌, List, [], ◌∷◌, ◌++◌, length, take, drop, ℤ, pos, ◌+ℤ◌, Some, None, Ok, Err, Option, Result, ◌==◌, int_lt, nat_lt, slice_index, unsigned_abs}
 use Rattle.plane.specs.declared.cell.Cell.{Cell}
 use Rattle.plane.specs.Cells.{all_inside}
+use Rattle.plane.specs.Rectangles.{window_cells, wrong_side}
 use Rattle.plane.specs.Meaning.{Meaning}
 use Rattle.canvas.specs.Board.{Board}
 use Rattle.views.specs.declared.refusal.WindowRefused.{WindowRefused}
 use Rattle.views.specs.declared.refusal.WindowRefused.TheVariants.{Side, OffSpan, Palette, Output}
 use Rattle.views.specs.Shows.{shown_ink}
-
--- the cell so many columns and rows from a corner
-abbrev pub cell_from : Cell → ℕ → ℕ → Cell
-cell_from corner column row = record { x = corner.x +ℤ pos column; y = corner.y +ℤ pos row }
-
--- the first n cells of a row
-unfoldable pub row_cells : Cell → ℕ → ℕ → List Cell
-row_cells corner row zero = []
-row_cells corner row (suc n) = row_cells corner row n ++ (cell_from corner n row ∷ [])
-
--- the cells of a rectangle, row by row
-unfoldable pub window_cells : Cell → ℕ → ℕ → List Cell
-window_cells corner width zero = []
-window_cells corner width (suc n) = window_cells corner width n ++ row_cells corner n width
 
 -- the byte of a digit
 abbrev pub digit : ℕ → ℕ
@@ -55,10 +42,6 @@ picture m b palette corner width height = header width height ++ pixels m b pale
 -- how many bytes that is
 abbrev pub picture_size : ℕ → ℕ → ℕ
 picture_size width height = length (header width height) + 3 * (width * height)
-
--- below 1 or above 128
-abbrev pub wrong_side : ℤ → Bool
-wrong_side n = int_lt n (pos 1) || int_lt (pos 128) n
 
 -- a side as a number, unless it is wrong
 abbrev pub side_of : ℤ → Result ℕ WindowRefused

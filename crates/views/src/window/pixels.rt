@@ -2,7 +2,8 @@
 ghost use Rattle.std.specs.Prelude.{◌≡◌, ◌+◌, ◌*◌, ◌≤◌, length};
 ghost use Rattle.plane.specs.Cells.{AllWithin, Within};
 ghost use Rattle.views.specs.Shows.{shown_ink};
-ghost use Rattle.views.specs.Windows.{cell_from, colour, pixels, placed, row_cells, window_cells};
+ghost use Rattle.plane.specs.Rectangles.{cell_from, row_cells, window_cells};
+ghost use Rattle.views.specs.Windows.{colour, pixels, placed};
 
 use super::super::show::show;
 use super::bytes::put;

@@ -1,7 +1,8 @@
 // The sides of a window, and how many bytes it has.
 ghost use Rattle.std.specs.Prelude.{◌≡◌, ◌≤◌, length};
 ghost use Rattle.plane.specs.Cells.{all_inside};
-ghost use Rattle.views.specs.Windows.{decimal, picture_size, side_of, window_cells};
+ghost use Rattle.plane.specs.Rectangles.{window_cells};
+ghost use Rattle.views.specs.Windows.{decimal, picture_size, side_of};
 
 use super::super::refusal::WindowRefused;
 use super::pixels::cell_from;

@@ -15,17 +15,17 @@ use Rattle.groups.proofs.homes.kinds.Goals as goal
 use Rattle.groups.proofs.homes.kinds.Goals.{then-eq+then-improper, then-eq+else-improper, else-eq}
 
 -- what the derived test of two cells tells
-equal_is : (p q : Cell) → int_eq p.x q.x && int_eq p.y q.y ≡ true → p ≡ q
+equal_is : (p q : Cell) → int_eq p.y q.y && int_eq p.x q.x ≡ true → p ≡ q
 equal_is p q e =
     let x : int_eq p.x q.x ≡ true = grind arith in
     let y : int_eq p.y q.y ≡ true = grind arith in
     same-cell ((Decides-int_eq p.x q.x).0 x) ((Decides-int_eq p.y q.y).0 y)
 
-equal_not : (p q : Cell) → int_eq p.x q.x && int_eq p.y q.y ≡ false → p ≡ q → ⊥
+equal_not : (p q : Cell) → int_eq p.y q.y && int_eq p.x q.x ≡ false → p ≡ q → ⊥
 equal_not p q e same =
     let x : int_eq p.x q.x ≡ true = (Decides-int_eq p.x q.x).1 (ap (λ (z : Cell). z.x) same) in
     let y : int_eq p.y q.y ≡ true = (Decides-int_eq p.y q.y).1 (ap (λ (z : Cell). z.y) same) in
-    both_ways (int_eq p.x q.x && int_eq p.y q.y) e (ap₂ ◌&&◌ x y)
+    both_ways (int_eq p.y q.y && int_eq p.x q.x) e (ap₂ ◌&&◌ y x)
 
 pub loop-k-init : goal.loop-k-init
 loop-k-init c =

@@ -2,9 +2,10 @@ use Rattle.std.proofs.Common.{◌≡◌, ◌+◌, ◌<◌, ◌≤◌, true, leng
 use Rattle.std.proofs.lemmas.Result.{err_from_is_err_and}
 use Rattle.std.proofs.lemmas.Int.{to_z-of_z}
 use Rattle.plane.specs.Cells.{all_inside}
-use Rattle.views.specs.Windows.{header, picture_size, pixels, side_of, window_cells, written_over}
-use Rattle.views.proofs.Cells.{all_within}
-use Rattle.views.proofs.Corners.{corner_near}
+use Rattle.plane.specs.Rectangles.{window_cells}
+use Rattle.views.specs.Windows.{header, picture_size, pixels, side_of, written_over}
+use Rattle.plane.proofs.Rectangles.{all_within}
+use Rattle.plane.proofs.Corners.{corner_near}
 use Rattle.views.proofs.Judging.{covered_is, picture_is, refused_height, refused_output, refused_palette, refused_span, refused_width, side_dropped, side-least, side_taken, written}
 use Rattle.views.proofs.Placing.{Written, written_more}
 use Rattle.views.proofs.window.window.Goals as goal

@@ -1,8 +1,9 @@
 use Rattle.std.proofs.Common.{◌≡◌, ◌+◌, ◌*◌, ◌≤◌, [], ◌∷◌, length, sym, ap, ◌∙◌, subst, arith}
 use Rattle.plane.specs.Cells.{Within}
 use Rattle.views.specs.Shows.{shown_ink}
-use Rattle.views.specs.Windows.{cell_from, colour, pixels, placed, row_cells}
-use Rattle.views.proofs.Cells.{row_at, row-length, row_more, row_none}
+use Rattle.plane.specs.Rectangles.{cell_from, row_cells}
+use Rattle.views.specs.Windows.{colour, pixels, placed}
+use Rattle.plane.proofs.Rectangles.{row_at, row-length, row_more, row_none}
 use Rattle.views.proofs.Pixels.{pixels_more}
 use Rattle.views.proofs.Placing.{placed_none}
 use Rattle.views.proofs.window.pixels.put_row.Goals as goal

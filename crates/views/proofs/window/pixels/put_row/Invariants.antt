@@ -1,5 +1,6 @@
 use Rattle.std.proofs.Common.{◌≡◌, ◌+◌, ◌*◌}
-use Rattle.views.specs.Windows.{pixels, placed, row_cells}
+use Rattle.plane.specs.Rectangles.{row_cells}
+use Rattle.views.specs.Windows.{pixels, placed}
 use Rattle.views.proofs.window.pixels.put_row.Given as goal
 
 -- the pixels of the columns so far are written

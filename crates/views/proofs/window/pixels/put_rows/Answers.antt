@@ -1,6 +1,7 @@
 use Rattle.std.proofs.Common.{◌≡◌, suc, ◌+◌, ◌*◌, ◌≤◌, length, sym, refl, ap, ◌∙◌, mul-le-mul_left, mul-suc, add-one, arith}
-use Rattle.views.specs.Windows.{pixels, placed, row_cells, window_cells}
-use Rattle.views.proofs.Cells.{window_length, window_more, window_none, window_row}
+use Rattle.plane.specs.Rectangles.{row_cells, window_cells}
+use Rattle.views.specs.Windows.{pixels, placed}
+use Rattle.plane.proofs.Rectangles.{window_length, window_more, window_none, window_row}
 use Rattle.views.proofs.Pixels.{pixels_more}
 use Rattle.views.proofs.Placing.{placed_none}
 use Rattle.views.proofs.window.pixels.put_rows.Goals as goal

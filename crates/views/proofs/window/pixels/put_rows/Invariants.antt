@@ -1,5 +1,6 @@
 use Rattle.std.proofs.Common.{◌≡◌, ◌+◌, ◌*◌}
-use Rattle.views.specs.Windows.{pixels, placed, window_cells}
+use Rattle.plane.specs.Rectangles.{window_cells}
+use Rattle.views.specs.Windows.{pixels, placed}
 use Rattle.views.proofs.window.pixels.put_rows.Given as goal
 
 -- the pixels of the rows so far are written

@@ -1,6 +1,6 @@
 use Rattle.std.proofs.Common.{sym, ap, ◌∙◌}
 use Rattle.plane.specs.Cells.{inside}
-use Rattle.views.proofs.Corners.{corner_in, corner_out}
+use Rattle.plane.proofs.Corners.{corner_in, corner_out}
 use Rattle.views.proofs.window.sizes.covers.Goals as goal
 
 pub returns-then-not-is_within : goal.returns-then-not-is_within

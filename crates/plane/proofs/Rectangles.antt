@@ -1,10 +1,10 @@
--- The cells of a window: how many they are, and that all are within a bound exactly if the corner and the cell opposite to it are.
+-- The cells of a rectangle: how many they are, and that all are within a bound exactly if the corner and the cell opposite to it are.
 use Rattle.std.proofs.Common.{◌≡◌, ℕ, zero, suc, ◌+◌, ◌*◌, ◌<◌, Bool, true, false, ◌&&◌, ◌⊎◌, List, [], ◌∷◌, ◌++◌, length, sym, refl, ap, ◌∙◌, subst, inl, inr, mul-suc, add-one, arith, length-append}
 use Rattle.std.proofs.lemmas.Bool.{cases_eq}
 use Rattle.plane.specs.declared.cell.Cell.{Cell}
 use Rattle.plane.specs.Cells.{AllWithin, Within, all_inside, inside}
 use Rattle.plane.proofs.Folding.{inside_within, within_inside}
-use Rattle.views.specs.Windows.{cell_from, row_cells, window_cells}
+use Rattle.plane.specs.Rectangles.{cell_from, row_cells, window_cells}
 
 -- ---- one more cell, one more row
 pub row_more : (corner : Cell) (row n : ℕ) → row_cells corner row (n + 1) ≡ row_cells corner row n ++ (cell_from corner n row ∷ [])
@@ -47,7 +47,7 @@ pub second_within : (n : ℕ) (ps qs : List Cell) → AllWithin n (ps ++ qs) →
 second_within n [] qs a = a
 second_within n (p ∷ ps) qs a = second_within n ps qs a.1
 
-below_or_last : (i n : ℕ) → i < suc n → (i < n) ⊎ (i ≡ n)
+pub below_or_last : (i n : ℕ) → i < suc n → (i < n) ⊎ (i ≡ n)
 below_or_last i n h = go (cases_eq i n)
   where
     go : (i ≡ n) ⊎ (i ≡ n → ⊥) → (i < n) ⊎ (i ≡ n)

@@ -1,12 +1,12 @@
--- The cells of a window are all within a bound exactly if the corner and the cell opposite to it are.
+-- The cells of a rectangle are all within a bound exactly if the corner and the cell opposite to it are.
 use Rattle.std.proofs.Common.{◌≡◌, ℕ, ◌-◌, ◌≤◌, Bool, true, false, ℤ, pos, ◌+ℤ◌, nat_abs, sym, refl, subst, arith}
 use borrow.Author.Differences.{ints}
 use Rattle.plane.specs.declared.cell.Cell.{Cell}
 use Rattle.plane.specs.Cells.{AllWithin, Within, all_inside, inside}
 use Rattle.plane.proofs.Algebra.{same-cell}
 use Rattle.plane.proofs.Folding.{inside_within, outside}
-use Rattle.views.specs.Windows.{cell_from, window_cells}
-use Rattle.views.proofs.Cells.{all_within, window_at, window_within, within_all}
+use Rattle.plane.specs.Rectangles.{cell_from, window_cells}
+use Rattle.plane.proofs.Rectangles.{all_within, window_at, window_within, within_all}
 
 between : (x : ℤ) (i a n : ℕ) → i ≤ a → nat_abs x ≤ n → nat_abs (x +ℤ pos a) ≤ n → nat_abs (x +ℤ pos i) ≤ n
 between x i a n h u v = omega (arith, ints)
