@@ -1,3 +1,4 @@
-pub mod Owning
+pub mod Places
 pub mod Noting
 pub mod Meeting
+pub mod Owning

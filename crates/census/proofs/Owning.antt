@@ -1,171 +1,169 @@
 -- The cells of a repeat that are their own homes: one for each class.
-use Rattle.std.proofs.Common.{◌≡◌, ℕ, zero, suc, ◌+◌, ◌*◌, ◌/◌, ◌%◌, ◌<◌, Bool, true, false, cond, T, eqb, ◌⊎◌, List, [], ◌∷◌, length, pos, nat_abs, sym, refl, ap, ◌∙◌, subst, ap₂, inl, inr, add-zero, mul-le-mul_right, mod-lt, suc-mul, mul_comm, div-lt_iff_lt-mul, add-one, arith, eqb→eq}
-use native.Mathlib.Nat.{div-eq_of_lt, mod-add-div', mul-add-div_right}
-use borrow.Author.Tests.{eqb-false}
-use lib.Arith.{digits_mod}
+use Rattle.std.proofs.Common.{◌≡◌, ℕ, ◌+◌, ◌≤◌, Bool, true, false, cond, T, List, [], ◌∷◌, length, pos, ◌+ℤ◌, nat_abs, sym, refl, ap, ◌∙◌, subst, inl, inr, mul-le-mul, zero-add, arith}
+use borrow.Author.Differences.{ints}
 use Rattle.plane.specs.declared.cell.Cell.{Cell}
-use Rattle.plane.specs.Cells.{Within, same}
+use Rattle.plane.specs.Cells.{AllWithin, Within, same}
+use Rattle.plane.specs.Rectangles.{cell_from, window_cells}
 use Rattle.plane.specs.Laws.{Lawful}
 use Rattle.plane.specs.Kinds.{on_mirror}
 use Rattle.plane.proofs.Algebra.{same-cell}
 use Rattle.plane.proofs.Order.{same_is, same_of, same_not}
+use Rattle.plane.proofs.Rectangles.{window_length, window_within}
 use Rattle.groups.specs.Lists.{In}
+use Rattle.groups.specs.Members.{T_true}
 use Rattle.groups.specs.Rules.{known, allowed}
 use Rattle.groups.specs.Tabled.{InRepeat, home_in, kinds_in, tabled}
 use Rattle.groups.specs.Homing.{tabled_laws, homes_least}
 use Rattle.groups.specs.Grouping.{rules}
 use Rattle.census.specs.Homes.{Distinct, Homes}
-use Rattle.census.specs.Census.{cell_at, mirrored_in}
+use Rattle.census.specs.Census.{Counted, mirrored_in, origin}
+use Rattle.census.proofs.Places.{cell_in, cell_place, distinct_cells}
 
--- the cells before the cell k that are their own homes
-abbrev pub own_homes : ℕ → ℕ → ℕ → ℕ → List Cell
-own_homes number p q zero = []
-own_homes number p q (suc k) = cond (same (home_in number p q (cell_at p k)) (cell_at p k)) (cell_at p k ∷ own_homes number p q k) (own_homes number p q k)
+-- ---- those of some cells that are their own homes
+module _ (home : Cell → Cell) where
+  abbrev pub own : List Cell → List Cell
+  own [] = []
+  own (c ∷ cs) = cond (same (home c) c) (c ∷ own cs) (own cs)
 
-module _ (number p q : ℕ) where
+  pub own_more : (c : Cell) (cs : List Cell) → home c ≡ c → own (c ∷ cs) ≡ c ∷ own cs
+  own_more c cs e = ap (λ b. cond b (c ∷ own cs) (own cs)) (T_true (same (home c) c) (same_of (home c) c e))
+
+  pub own_same : (c : Cell) (cs : List Cell) → (home c ≡ c → ⊥) → own (c ∷ cs) ≡ own cs
+  own_same c cs h = ap (λ b. cond b (c ∷ own cs) (own cs)) (same_not (home c) c h)
+
+  own_of : (cs : List Cell) (g : Cell) → In g (own cs) → In g cs × (home g ≡ g)
+  own_of [] g i = absurd i
+  own_of (c ∷ cs) g i = go (same (home c) c) refl i (own_of cs g)
+    where
+      go : (b : Bool) → same (home c) c ≡ b → In g (cond b (c ∷ own cs) (own cs)) → (In g (own cs) → In g cs × (home g ≡ g)) → In g (c ∷ cs) × (home g ≡ g)
+      go true e (inl f) rest = (inl f, ap home f ∙ same_is (home c) c (subst T (sym e) tt) ∙ sym f)
+      go true e (inr j) rest = (inr (rest j).0, (rest j).1)
+      go false e j rest = (inr (rest j).0, (rest j).1)
+
+  own-has : (cs : List Cell) (g : Cell) → In g cs → home g ≡ g → In g (own cs)
+  own-has [] g i e = absurd i
+  own-has (c ∷ cs) g (inl f) e = subst (In g) (sym (own_more c cs (subst (λ z. home z ≡ z) f e))) (inl f)
+  own-has (c ∷ cs) g (inr i) e = go (same (home c) c) (own-has cs g i e)
+    where
+      go : (b : Bool) → In g (own cs) → In g (cond b (c ∷ own cs) (own cs))
+      go true j = inr j
+      go false j = j
+
+  own_distinct : (cs : List Cell) → Distinct cs → Distinct (own cs)
+  own_distinct [] d = tt
+  own_distinct (c ∷ cs) d = go (same (home c) c) (own_distinct cs d.1)
+    where
+      go : (b : Bool) → Distinct (own cs) → Distinct (cond b (c ∷ own cs) (own cs))
+      go true rest = (λ i. d.0 (own_of cs c i).0, rest)
+      go false rest = rest
+
+-- ---- counts that the cells that are left bring to those of all
+module _ (number p q : ℕ) (all : List Cell) where
+  abbrev own_of_group : List Cell → List Cell
+  own_of_group = own (home_in number p q)
+
+  pub record Counting (classes mirrored : ℕ) (left : List Cell) : Type 0 where
+    pub many : classes + length (own_of_group left) ≡ length (own_of_group all)
+    pub on_mirrors : mirrored + mirrored_in number p q (own_of_group left) ≡ mirrored_in number p q (own_of_group all)
+    pub fewer : mirrored ≤ classes
+    pub room : classes + length left ≤ length all
+    pub near : AllWithin 1_000_000 left
+
+  module _ (classes mirrored : ℕ) (left : List Cell) (c : Cell) (rest : List Cell) (w : Counting classes mirrored left) (e : left ≡ c ∷ rest) where
+    pub near_first : Within 1_000_000 c
+    near_first = (subst (AllWithin 1_000_000) e w.near).0
+
+    pub room_more : classes + 1 ≤ length all
+    room_more = let r = w.room in let l = ap length e in omega (arith, r, l)
+
+    pub counting_more : (b : Bool) → home_in number p q c ≡ c → on_mirror (kinds_in number p q c) ≡ b → Counting (classes + 1) (mirrored + cond b 1 0) rest
+    counting_more b is t =
+        let o = ap own_of_group e ∙ own_more (home_in number p q) c rest is in
+        record {
+          many = let s = ap length o in let m = w.many in omega (arith, s, m);
+          on_mirrors = let s = ap (mirrored_in number p q) o in let u = ap {B = ℕ} (λ d. cond d 1 0) t in let m = w.on_mirrors in omega (arith, s, u, m);
+          fewer = grind (arith, w.fewer);
+          room = let r = w.room in let l = ap length e in omega (arith, r, l);
+          near = (subst (AllWithin 1_000_000) e w.near).1;
+        }
+
+    pub counting_same : (home_in number p q c ≡ c → ⊥) → Counting classes mirrored rest
+    counting_same other =
+        let o = ap own_of_group e ∙ own_same (home_in number p q) c rest other in
+        record {
+          many = ap (λ l. classes + length l) (sym o) ∙ w.many;
+          on_mirrors = ap (λ l. mirrored + mirrored_in number p q l) (sym o) ∙ w.on_mirrors;
+          fewer = w.fewer;
+          room = let r = w.room in let l = ap length e in omega (arith, r, l);
+          near = (subst (AllWithin 1_000_000) e w.near).1;
+        }
+
+-- ---- the repeat of a group
+module _ (number p q : ℕ) (k : known number ≡ true) (a : allowed number p q ≡ true) where
   abbrev home : Cell → Cell
   home = home_in number p q
 
-  abbrev before : ℕ → List Cell
-  before = own_homes number p q
+  abbrev cells : List Cell
+  cells = window_cells origin p q
 
-  -- one cell more
-  pub own_more : (k : ℕ) → home (cell_at p k) ≡ cell_at p k → before (suc k) ≡ cell_at p k ∷ before k
-  own_more k e = ap (λ (b : Bool). cond b (cell_at p k ∷ before k) (before k)) (is_true (same (home (cell_at p k)) (cell_at p k)) (same_of (home (cell_at p k)) (cell_at p k) e))
+  laws : Lawful (tabled number p q)
+  laws = tabled_laws number p q k a
+
+  near : (c : Cell) → InRepeat p q c → Within 1_000_000 c
+  near c r =
+      let ru = rules number p q a in
+      (omega (arith, ap nat_abs r.x, r.narrow, ru.p_high), omega (arith, ap nat_abs r.y, r.low, ru.q_high))
+
+  listed : (c : Cell) → InRepeat p q c → In c cells
+  listed c r = subst (λ z. In z cells) (same-cell (here r.column ∙ sym r.x) (here r.row ∙ sym r.y)) (cell_in origin p q r.column r.row r.narrow r.low)
     where
-      is_true : (b : Bool) → T b → b ≡ true
-      is_true true t = refl
-      is_true false t = absurd t
+      here : (n : ℕ) → pos 0 +ℤ pos n ≡ pos n
+      here n = omega (arith, ints)
 
-  pub own_same : (k : ℕ) → (home (cell_at p k) ≡ cell_at p k → ⊥) → before (suc k) ≡ before k
-  own_same k h = ap (λ (b : Bool). cond b (cell_at p k ∷ before k) (before k)) (same_not (home (cell_at p k)) (cell_at p k) h)
-
-  -- a member stands at a place, and is its own home
-  member : (k : ℕ) (c : Cell) → In c (before k) → (j : ℕ) × (j < k) × (c ≡ cell_at p j) × (home c ≡ c)
-  member zero c i = absurd i
-  member (suc k) c i = go (same (home (cell_at p k)) (cell_at p k)) refl i (member k c)
+  found : (c : Cell) → In c cells → InRepeat p q c
+  found c i =
+      let w = cell_place origin p q c i in
+      record { column = w.column; row = w.row; x = ap (λ (z : Cell). z.x) w.is ∙ here w.column; y = ap (λ (z : Cell). z.y) w.is ∙ here w.row; narrow = w.narrow; low = w.low }
     where
-      go : (b : Bool) → same (home (cell_at p k)) (cell_at p k) ≡ b → In c (cond b (cell_at p k ∷ before k) (before k)) → (In c (before k) → (j : ℕ) × (j < k) × (c ≡ cell_at p j) × (home c ≡ c)) → (j : ℕ) × (j < suc k) × (c ≡ cell_at p j) × (home c ≡ c)
-      go true e (inl f) rest =
-          let own = same_is (home (cell_at p k)) (cell_at p k) (subst T (sym e) tt) in
-          (k, omega arith, f, ap home f ∙ own ∙ sym f)
-      go true e (inr m) rest = let r = rest m in (r.0, omega (arith, r.1), r.2, r.3)
-      go false e m rest = let r = rest m in (r.0, omega (arith, r.1), r.2, r.3)
+      here : (n : ℕ) → pos 0 +ℤ pos n ≡ pos n
+      here n = omega (arith, ints)
 
-  -- what was listed stays listed
-  kept : (k : ℕ) (c : Cell) → In c (before k) → In c (before (suc k))
-  kept k c i = go (same (home (cell_at p k)) (cell_at p k))
-    where
-      go : (b : Bool) → In c (cond b (cell_at p k ∷ before k) (before k))
-      go true = inr i
-      go false = i
+  pub cells_near : AllWithin 1_000_000 cells
+  cells_near = window_within 1_000_000 origin p q (λ i j h l. near (cell_from origin i j) (found (cell_from origin i j) (cell_in origin p q i j h l)))
 
-  below_or_at : (j k : ℕ) → j < suc k → (j < k) ⊎ (j ≡ k)
-  below_or_at j k h = go (eqb j k) refl
-    where
-      go : (b : Bool) → eqb j k ≡ b → (j < k) ⊎ (j ≡ k)
-      go true e = inr (eqb→eq j k (subst T (sym e) tt))
-      go false e = inl (let ne = eqb-false j k e in omega arith)
+  -- the home of a cell is its own home
+  settled : (c : Cell) → InRepeat p q c → home (home c) ≡ home c
+  settled c r =
+      let least = homes_least number p q k a c in
+      sym ((laws.one_home c (home c) (near c r) (near (home c) least.inside)).1 least.carried)
 
-  -- a cell that is its own home is a member
-  listed : (k j : ℕ) → j < k → home (cell_at p j) ≡ cell_at p j → In (cell_at p j) (before k)
-  listed zero j h e = absurd (omega arith)
-  listed (suc k) j h e = go (below_or_at j k h) (listed k j)
-    where
-      go : (j < k) ⊎ (j ≡ k) → (j < k → home (cell_at p j) ≡ cell_at p j → In (cell_at p j) (before k)) → In (cell_at p j) (before (suc k))
-      go (inl l) rest = kept k (cell_at p j) (rest l e)
-      go (inr f) rest = subst (λ (i : ℕ). In (cell_at p i) (before (suc k))) (sym f) (subst (In (cell_at p k)) (sym (own_more k (subst (λ (i : ℕ). home (cell_at p i) ≡ cell_at p i) f e))) (inl refl))
+  pub homes_are : Homes (tabled number p q) (InRepeat p q) (own home cells)
+  homes_are = record {
+    distinct = own_distinct home cells (distinct_cells origin p q);
+    all = λ c r. own-has home cells (home c) (listed (home c) (homes_least number p q k a c).inside) (settled c r);
+    only = λ h i. let m = own_of home cells h i in (h, found h m.0, m.1);
+    apart = λ g h i j c.
+        let m = own_of home cells g i in
+        let n = own_of home cells h j in
+        sym m.1 ∙ (laws.one_home g h (near g (found g m.0)) (near h (found h n.0))).1 c ∙ n.1;
+  }
 
-  -- a place is told by its cell
-  place : (j k : ℕ) → cell_at p j ≡ cell_at p k → j ≡ k
-  place j k e =
-      let x : j % p ≡ k % p = ap (λ (c : Cell). nat_abs c.x) e in
-      let y : j / p ≡ k / p = ap (λ (c : Cell). nat_abs c.y) e in
-      sym (mod-add-div' j p) ∙ ap₂ (λ (a b : ℕ). a + b * p) x y ∙ mod-add-div' k p
+  pub counting_none : (left : List Cell) → left ≡ cells → Counting number p q cells 0 0 left
+  counting_none left e = record {
+    many = zero-add (length (own home left)) ∙ ap (λ l. length (own home l)) e;
+    on_mirrors = zero-add (mirrored_in number p q (own home left)) ∙ ap (λ l. mirrored_in number p q (own home l)) e;
+    fewer = omega arith;
+    room = let l = ap length e in omega (arith, l);
+    near = subst (AllWithin 1_000_000) (sym e) cells_near;
+  }
 
-  once : (k : ℕ) → Distinct (before k)
-  once zero = tt
-  once (suc k) = go (once k) (same (home (cell_at p k)) (cell_at p k))
-    where
-      new : In (cell_at p k) (before k) → ⊥
-      new i = let m = member k (cell_at p k) i in let e = place k m.0 m.2 in omega (arith, m.1)
+  pub counted : (classes mirrored : ℕ) (left : List Cell) → Counting number p q cells classes mirrored left → left ≡ [] → Counted number p q classes mirrored
+  counted classes mirrored left w e = record {
+    homes = own home cells;
+    are = homes_are;
+    many = let m = w.many in let l = ap (λ l. length (own home l)) e in omega (arith, m, l);
+    on_mirrors = let m = w.on_mirrors in let l = ap (λ l. mirrored_in number p q (own home l)) e in omega (arith, m, l);
+  }
 
-      go : Distinct (before k) → (b : Bool) → Distinct (cond b (cell_at p k ∷ before k) (before k))
-      go rest true = (new, rest)
-      go rest false = rest
-
-  module _ (k : known number ≡ true) (a : allowed number p q ≡ true) where
-    laws : Lawful (tabled number p q)
-    laws = tabled_laws number p q k a
-
-    near : (c : Cell) → InRepeat p q c → Within 1_000_000 c
-    near c r =
-        let ru = rules number p q a in
-        (omega (arith, ap nat_abs r.x, r.narrow, ru.p_high), omega (arith, ap nat_abs r.y, r.low, ru.q_high))
-
-    -- the home of a cell is its own home
-    settled : (c : Cell) → InRepeat p q c → home (home c) ≡ home c
-    settled c r =
-        let least = homes_least number p q k a c in
-        sym ((laws.one_home c (home c) (near c r) (near (home c) least.inside)).1 least.carried)
-
-    -- a cell of the repeat at its place
-    placed : (c : Cell) (r : InRepeat p q c) → (r.row * p + r.column < p * q) × (cell_at p (r.row * p + r.column) ≡ c)
-    placed c r =
-        let low = (rules number p q a).p_low in (
-          within r.row r.column r.low r.narrow,
-          same-cell (ap pos (digits_mod r.row r.narrow) ∙ sym r.x)
-              (ap pos (mul-add-div_right low r.row r.column ∙ ap (λ (m : ℕ). r.row + m) (div-eq_of_lt r.narrow) ∙ add-zero r.row) ∙ sym r.y),
-        )
-      where
-        within : (row column : ℕ) → row < q → column < p → row * p + column < p * q
-        within row column l n = omega (arith, mul-le-mul_right p l, mul_comm p q, suc-mul row p)
-
-    -- a place below p q is a cell of the repeat
-    in_repeat : (j : ℕ) → j < p * q → InRepeat p q (cell_at p j)
-    in_repeat j h =
-        let low = (rules number p q a).p_low in
-        record {
-          column = j % p;
-          row = j / p;
-          x = refl;
-          y = refl;
-          narrow = mod-lt j low;
-          low = (div-lt_iff_lt-mul {k = p} {x = j} {y = q} low).1 (omega (arith, mul_comm p q));
-        }
-
-    pub homes_are : Homes (tabled number p q) (InRepeat p q) (before (p * q))
-    homes_are = record {
-      distinct = once (p * q);
-      all = λ c r.
-          let h = (homes_least number p q k a c).inside in
-          let w = placed (home c) h in
-          subst (λ (z : Cell). In z (before (p * q))) w.1
-          (listed (p * q) (h.row * p + h.column) w.0 (ap home w.1 ∙ settled c r ∙ sym w.1));
-      only = λ h i.
-          let m = member (p * q) h i in
-          (h, subst (InRepeat p q) (sym m.2) (in_repeat m.0 m.1), m.3);
-      apart = λ g h i j c.
-          let m = member (p * q) g i in
-          let n = member (p * q) h j in
-          let rg = subst (InRepeat p q) (sym m.2) (in_repeat m.0 m.1) in
-          let rh = subst (InRepeat p q) (sym n.2) (in_repeat n.0 n.1) in
-          sym m.3 ∙ (laws.one_home g h (near g rg) (near h rh)).1 c ∙ n.3;
-    }
-
-  -- the counts after one cell more
-  pub many_more : (k classes : ℕ) → home (cell_at p k) ≡ cell_at p k → length (before k) ≡ classes → length (before (k + 1)) ≡ classes + 1
-  many_more k n own e = ap (λ (m : ℕ). length (before m)) (add-one k) ∙ ap length (own_more k own) ∙ ap suc e ∙ sym (add-one n)
-
-  pub many_same : (k classes : ℕ) → (home (cell_at p k) ≡ cell_at p k → ⊥) → length (before k) ≡ classes → length (before (k + 1)) ≡ classes
-  many_same k n other e = ap (λ (m : ℕ). length (before m)) (add-one k) ∙ ap length (own_same k other) ∙ e
-
-  abbrev mirrored : List Cell → ℕ
-  mirrored = mirrored_in number p q
-
-  pub mirrored_more : (k m : ℕ) (b : Bool) → home (cell_at p k) ≡ cell_at p k → on_mirror (kinds_in number p q (cell_at p k)) ≡ b → mirrored (before k) ≡ m → mirrored (before (k + 1)) ≡ cond b 1 0 + m
-  mirrored_more k m b own t e =
-      ap (λ (n : ℕ). mirrored (before n)) (add-one k) ∙ ap mirrored (own_more k own) ∙ ap₂ (λ (c : Bool) (n : ℕ). cond c 1 0 + n) t e
-
-  pub mirrored_same : (k m : ℕ) → (home (cell_at p k) ≡ cell_at p k → ⊥) → mirrored (before k) ≡ m → mirrored (before (k + 1)) ≡ m
-  mirrored_same k m other e = ap (λ (n : ℕ). mirrored (before n)) (add-one k) ∙ ap mirrored (own_same k other) ∙ e
+  pub few_cells : length cells ≤ 16384
+  few_cells = let ru = rules number p q a in let l = window_length origin p q in let m = mul-le-mul ru.p_high ru.q_high in omega (arith, l, m)

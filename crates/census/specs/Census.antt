@@ -1,13 +1,12 @@
 -- The census of a tabled group: the homes of the cells of its repeat, and how many there are.
-use Rattle.std.specs.Prelude.{◌≡◌, ℕ, ◌+◌, ◌/◌, ◌%◌, cond, List, [], ◌∷◌, length, pos}
+use Rattle.std.specs.Prelude.{◌≡◌, ℕ, ◌+◌, cond, List, [], ◌∷◌, length, pos}
 use Rattle.plane.specs.declared.cell.Cell.{Cell}
 use Rattle.plane.specs.Kinds.{on_mirror}
 use Rattle.groups.specs.Tabled.{InRepeat, kinds_in, tabled}
 use Rattle.census.specs.Homes.{Homes}
 
--- the cell k of a repeat p wide, row by row
-abbrev pub cell_at : ℕ → ℕ → Cell
-cell_at p k = record { x = pos (k % p); y = pos (k / p) }
+abbrev pub origin : Cell
+origin = record { x = pos 0; y = pos 0 }
 
 -- how many cells of the list lie on a mirror
 abbrev pub mirrored_in : ℕ → ℕ → ℕ → List Cell → ℕ

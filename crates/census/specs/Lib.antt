@@ -1,3 +1,4 @@
 pub mod Homes
 pub mod Census
 pub mod Windows
+pub mod Faults

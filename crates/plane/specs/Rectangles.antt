@@ -1,6 +1,6 @@
 -- Rectangles of cells.
 --     corner    the cell of the rectangle with the least column and the least row
-use Rattle.std.specs.Prelude.{◌≡◌, ℕ, zero, suc, ◌+◌, ◌*◌, ◌<◌, ◌≤◌, Bool, cond, not, ◌||◌, List, [], ◌∷◌, ◌++◌, drop, ℤ, pos, ◌+ℤ◌, Some, None, Option, int_lt, unsigned_abs}
+use Rattle.std.specs.Prelude.{ℕ, zero, suc, ◌+◌, ◌*◌, Bool, cond, not, ◌||◌, List, [], ◌∷◌, ◌++◌, drop, ℤ, pos, ◌+ℤ◌, Some, None, Option, int_lt, unsigned_abs}
 use Rattle.plane.specs.declared.cell.Cell.{Cell}
 use Rattle.plane.specs.declared.rectangle.Rectangle.{Rectangle}
 use Rattle.plane.specs.declared.rectangle.RectangleRefused.{RectangleRefused}

@@ -1,11 +1,10 @@
-use Rattle.std.proofs.Common.{◌≡◌, ◌≤◌, length}
-use Rattle.census.specs.Census.{mirrored_in}
-use Rattle.census.proofs.Owning.{own_homes}
+use Rattle.plane.specs.Rectangles.{cells_from, window_cells}
+use Rattle.census.specs.Census.{origin}
+use Rattle.census.proofs.Owning.{Counting}
 use Rattle.census.proofs.repeats.Census.of.Given as goal
 
-abbrev pub invariant-loop-k : goal.invariant-loop-k
-invariant-loop-k l =
-    (length (own_homes l.group.number l.group.p l.group.q l.k) ≡ l.classes)
-    × (mirrored_in l.group.number l.group.p l.group.q (own_homes l.group.number l.group.p l.group.q l.k) ≡ l.mirrored)
-    × (l.mirrored ≤ l.classes)
-    × (l.classes ≤ l.k)
+abbrev pub invariant-loop-at : goal.invariant-loop-at
+invariant-loop-at l =
+    let g = l.group in
+    let s = l.at-iterator in
+    Counting g.number g.p g.q (window_cells origin g.p g.q) l.classes l.mirrored (cells_from s.window.corner s.window.width s.window.height s.column s.row)
