@@ -3,10 +3,11 @@ ghost use Rattle.std.specs.Prelude.{◌≡◌, IfOk};
 ghost use Rattle.census.specs.Census.{Counted};
 
 use super::picture::Picture;
+use census::fault::WindowFault;
 use census::repeats::Census;
-use census::windows::WindowFault;
 use groups::tabled::Tabled;
 use plane::cell::Cell;
+use plane::rectangle::Rectangle;
 use std::alloc::Global;
 use std::fmt;
 
@@ -23,15 +24,17 @@ impl Card {
         ensures { IfOk result (λ c. (c.group ≡ group) × Counted group.number group.p group.q c.census.classes c.census.mirrored) }
     {
         let census = Census::of(&group);
-        let origin = Cell { x: 0, y: 0 };
-        match Picture::of(heap, &group, origin, group.p() as i64, group.q() as i64) {
-            Ok(picture) => Ok(Card {
-                group,
-                census,
-                picture,
-            }),
-            Err(why) => Err(why),
-        }
+        let repeat = Rectangle {
+            corner: Cell { x: 0, y: 0 },
+            width: i64::from(group.p()),
+            height: i64::from(group.q()),
+        };
+        let picture = Picture::of(heap, &group, repeat)?;
+        Ok(Card {
+            group,
+            census,
+            picture,
+        })
     }
 }
 

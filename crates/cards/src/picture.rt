@@ -1,11 +1,14 @@
 // The classes that meet a window, as a picture in text.
-ghost use Rattle.std.specs.Prelude.{◌≡◌, List, length, MatchResult};
+ghost use Rattle.std.specs.Prelude.{◌≡◌, ◌≤◌, List, length, MatchResult};
 ghost use Rattle.plane.specs.declared.cell.Cell.{Cell as PlaneCell};
 ghost use Rattle.census.specs.Windows.{Met, Refuses};
 
-use census::windows::{WindowFault, classes};
+use census::fault::WindowFault;
+use census::windows::classes;
 use plane::cell::Cell;
+use plane::rectangle::Rectangle;
 use plane::symmetry::Symmetry;
+use plane::window::Window;
 use std::alloc::{AllocError, Global};
 use std::fmt;
 
@@ -13,49 +16,39 @@ use std::fmt;
 const MARKS: &[u8; 62] = b"0123456789abcdefghijklmnopqrstuvwxyzABCDEFGHIJKLMNOPQRSTUVWXYZ";
 
 // The widest window that is drawn.
-const WIDEST: i64 = 32;
+const WIDEST: u8 = 32;
 
 #[derive(Drop)]
 pub struct Picture {
     // How many classes meet the window.
     pub count: usize,
-    width: i64,
+    width: usize,
     // What each cell shows, row by row; nothing if the window is too wide to be drawn.
     marks: Vec<u8>,
 }
 
 // The mark of a home among the homes of the window.
-fn mark(homes: &Vec<Cell>, home: Cell) -> u8 {
-    for (class, other) in homes.iter().enumerate() {
-        if *other == home {
-            return MARKS[class % 62];
-        }
+fn mark(homes: &[Cell], home: Cell) -> u8 {
+    match homes.iter().position(|other| *other == home) {
+        Some(class) => MARKS[class % 62],
+        None => b'?',
     }
-    b'?'
 }
 
 // The marks of the cells of a window.
 fn marks<S: Symmetry>(
     heap: Global,
     symmetry: &S,
-    homes: &Vec<Cell>,
-    corner: Cell,
-    width: i64,
-    height: i64,
+    homes: &[Cell],
+    window: Window,
 ) -> Result<Vec<u8>, AllocError> {
     let mut marks = Vec::new(heap);
-    if width > WIDEST {
+    if window.width > WIDEST {
         return Ok(marks);
     }
-    for row in 0..height {
-        for column in 0..width {
-            let at = Cell {
-                x: corner.x.wrapping_add(column),
-                y: corner.y.wrapping_add(row),
-            };
-            if let Ok(fold) = symmetry.fold(at) {
-                marks.push(mark(homes, fold.home))?;
-            }
+    for at in window.cells() {
+        if let Ok(fold) = symmetry.fold(at) {
+            marks.push(mark(homes, fold.home))?;
         }
     }
     Ok(marks)
@@ -66,40 +59,28 @@ impl Picture {
     pub fn of<S: Symmetry>(
         heap: Global,
         symmetry: &S,
-        corner: Cell,
-        width: i64,
-        height: i64,
+        rectangle: Rectangle,
     ) -> Result<Picture, WindowFault>
-        ensures { MatchResult result (λ p. (hs : List PlaneCell) × Met (S.Symmetry.meaning symmetry.now) corner width height hs × (length hs ≡ p.count)) (λ e. Refuses (S.Symmetry.meaning symmetry.now) corner width height e) }
+        ensures { MatchResult result (λ p. (hs : List PlaneCell) × Met (S.Symmetry.meaning symmetry.now) rectangle.corner rectangle.width rectangle.height hs × (length hs ≡ p.count)) (λ e. Refuses (S.Symmetry.meaning symmetry.now) rectangle.corner rectangle.width rectangle.height e) }
     {
-        let homes = match classes(heap, symmetry, corner, width, height) {
-            Ok(homes) => homes,
-            Err(why) => return Err(why),
-        };
-        let count = homes.len();
-        match marks(heap, symmetry, &homes, corner, width, height) {
-            Ok(marks) => Ok(Picture {
-                count,
-                width,
-                marks,
-            }),
-            Err(_) => Err(WindowFault::Memory),
-        }
+        let homes = classes(heap, symmetry, rectangle)?;
+        let window = rectangle.within(symmetry.span())?;
+        let marks = marks(heap, symmetry, homes.as_slice(), window)?;
+        Ok(Picture {
+            count: homes.len(),
+            width: usize::from(window.width),
+            marks,
+        })
     }
 }
 
 impl fmt::Display for Picture {
     fn fmt<W: fmt::Write>(&self, f: &mut fmt::Formatter<W>) -> fmt::Result {
-        let mut column: i64 = 0;
-        for mark in self.marks.iter() {
-            if column == 0 {
-                write!(f, "\n  ")?;
-            }
-            let shown = *mark as char;
-            write!(f, "{shown}")?;
-            column = column.saturating_add(1);
-            if column >= self.width {
-                column = 0;
+        for row in self.marks.chunks(self.width.max(1)) {
+            write!(f, "\n  ")?;
+            for mark in row {
+                let shown = char::from(*mark);
+                write!(f, "{shown}")?;
             }
         }
         Ok(())
