@@ -1,9 +1,7 @@
 -- A coordinate of a line starts at one end, stops at the other, and never leaves the stretch between them.
-use Rattle.std.proofs.Common.{◌≡◌, ℕ, ◌+◌, ◌*◌, ◌/◌, ◌<◌, ◌≤◌, true, false, eqb, ◌⊎◌, ℤ, pos, negsuc, ◌+ℤ◌, ◌-ℤ◌, nat_abs, sym, refl, ap, ◌∙◌, inl, inr, mul-le-mul_right, div-lt_iff_lt-mul, arith}
+use Rattle.std.proofs.Common.{◌≡◌, ℕ, ◌+◌, ◌*◌, ◌/◌, ◌<◌, ◌≤◌, eqb, ◌⊎◌, ℤ, pos, negsuc, ◌+ℤ◌, ◌-ℤ◌, nat_abs, sym, refl, ap, ◌∙◌, inl, inr, mul-le-mul_right, div-lt_iff_lt-mul, arith}
 use native.Mathlib.Nat.{div-eq_of_lt, div-eq_of_lt-le}
 use borrow.Author.Differences.{ints}
-use borrow.Author.Tests.{both_ways}
-use lib.Signed.{le_z}
 use Rattle.std.proofs.lemmas.Bool.{cond-true, cond-false, cases_eq, eq-eqb, ne_eqb}
 use Rattle.lines.specs.Lines.{moved, toward, stands}
 
@@ -11,11 +9,11 @@ module _ (a d i : ℕ) where
   at-reach : d ≡ a → moved a d i ≡ i
   at-reach e = cond-true (eqb d a) i ((2 * i * d + a) / (2 * a)) (eq-eqb d a e)
 
-  pub below_reach : (d ≡ a → ⊥) → moved a d i ≡ (2 * i * d + a) / (2 * a)
+  below_reach : (d ≡ a → ⊥) → moved a d i ≡ (2 * i * d + a) / (2 * a)
   below_reach n = cond-false (eqb d a) i ((2 * i * d + a) / (2 * a)) (ne_eqb d a n)
 
 -- a share of a smaller difference
-pub share_le : (a d i : ℕ) → d < a → i ≤ a → (2 * i * d + a) / (2 * a) ≤ d
+share_le : (a d i : ℕ) → d < a → i ≤ a → (2 * i * d + a) / (2 * a) ≤ d
 share_le a d i h k =
     let p : i * d ≤ a * d = mul-le-mul_right d k in
     let lt : 2 * i * d + a < (d + 1) * (2 * a) = omega arith in
@@ -71,11 +69,3 @@ stands_last a u v h = ap (λ m. u +ℤ toward (v -ℤ u) m) (moved_last a (nat_a
 
 pub stands_within : (a : ℕ) (u v : ℤ) (i n : ℕ) → nat_abs (v -ℤ u) ≤ a → i ≤ a → nat_abs u ≤ n → nat_abs v ≤ n → nat_abs (stands a u v i) ≤ n
 stands_within a u v i n h k = toward_within u v (moved a (nat_abs (v -ℤ u)) i) n (moved_le a (nat_abs (v -ℤ u)) i h k)
-
--- ---- against the direction of the numbers
-pub stands-down : (a : ℕ) (u v : ℤ) (i m : ℕ) → le_z u v ≡ false → m ≡ moved a (nat_abs (v -ℤ u)) i → u -ℤ pos m ≡ stands a u v i
-stands-down a u v i m h e = go (v -ℤ u) refl ∙ ap (λ n. u +ℤ toward (v -ℤ u) n) e
-  where
-    go : (z : ℤ) → v -ℤ u ≡ z → u -ℤ pos m ≡ u +ℤ toward z m
-    go (pos n) f = absurd (let k : le_z u v ≡ true = grind (arith, ints) in both_ways (le_z u v) h k)
-    go (negsuc n) f = refl

@@ -1,9 +1,11 @@
 // Lines by their ends.
 ghost use Rattle.std.specs.Prelude.{◌≡◌, ◌<◌, ◌≤◌, length, ◌-ℤ◌, MatchResult, slice_index_or, unsigned_abs};
+ghost use Rattle.std.specs.Iterator.{YieldsFirst, item_count};
 ghost use Rattle.lines.specs.Lines.{Joins, line_cells, moved, reach, stands, top_length};
 
 use super::refusal::LineRefused;
 use plane::cell::Cell;
+use std::marker::Model;
 
 // A line of at most 4,096 cells: it takes `steps` steps from its first cell to its last.
 #[derive(Clone, Copy)]
@@ -15,6 +17,40 @@ pub struct Line {
     ghost whole: { steps ≡ reach from to },
 }
 
+// The cells of a line that are left, from its first to its last.
+#[derive(Drop)]
+pub struct LineCells {
+    line: Line,
+    step: u16,
+}
+
+impl Model for LineCells {
+    ghost use Rattle.std.specs.Prelude.{List, drop};
+    ghost use Rattle.plane.specs.declared.cell.Cell.{Cell};
+    ghost use Rattle.lines.specs.Lines.{line_cells};
+
+    ghost Value = { List Cell };
+
+    ghost view = { λ s. drop s.step (line_cells s.line.from s.line.to) };
+}
+
+impl Iterator for LineCells {
+    type Item = Cell;
+
+    ghost next_gives = { YieldsFirst (λ rest. rest) };
+
+    ghost remaining = { item_count (λ rest. rest) };
+
+    fn next(&mut self) -> Option<Cell> {
+        if self.step >= self.line.cells() {
+            return None;
+        }
+        let at = self.line.cell(self.step);
+        self.step += 1;
+        Some(at)
+    }
+}
+
 // How far a coordinate of difference `d` has moved at step `i` of a line of `a` steps.
 fn moved(a: u16, d: u16, i: u16) -> u16
     requires { (d ≤ a) × ((i ≤ a) × (a ≤ 4095)) }
@@ -24,8 +60,8 @@ fn moved(a: u16, d: u16, i: u16) -> u16
     if d == a {
         i
     } else {
-        let a = a as u32;
-        ((2 * (i as u32) * (d as u32) + a) / (2 * a)) as u16
+        let a = u32::from(a);
+        ((2 * u32::from(i) * u32::from(d) + a) / (2 * a)) as u16
     }
 }
 
@@ -34,7 +70,7 @@ fn stands(a: u16, u: i64, v: i64, i: u16) -> i64
     requires { (unsigned_abs (v -ℤ u) ≤ a) × ((i ≤ a) × (a ≤ 4095)) }
     ensures { result ≡ stands a u v i }
 {
-    let far = moved(a, v.abs_diff(u) as u16, i) as i64;
+    let far = i64::from(moved(a, v.abs_diff(u) as u16, i));
     if u <= v { u + far } else { u - far }
 }
 
@@ -74,5 +110,15 @@ impl Line {
         let x = stands(self.steps, self.from.x, self.to.x, i);
         let y = stands(self.steps, self.from.y, self.to.y, i);
         Cell { x, y }
+    }
+
+    // Its cells, from the first to the last.
+    pub fn iter(&self) -> LineCells
+        ensures { result ≡ line_cells self.now.from self.now.to }
+    {
+        LineCells {
+            line: *self,
+            step: 0,
+        }
     }
 }
