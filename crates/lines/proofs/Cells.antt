@@ -1,5 +1,6 @@
 -- The laws of the cells of a line: how many they are, which stands at each step, that they go from end to end, and that they stay within every bound on both ends.
-use Rattle.std.proofs.Common.{◌≡◌, ℕ, zero, suc, ◌+◌, ◌<◌, ◌≤◌, length, get_or, ◌-ℤ◌, nat_abs, sym, refl, ap, ◌∙◌, add-zero, arith}
+use Rattle.std.proofs.Common.{◌≡◌, ℕ, zero, suc, ◌+◌, ◌<◌, ◌≤◌, [], ◌∷◌, length, get_or, ◌-ℤ◌, nat_abs, sym, refl, ap, ◌∙◌, add-zero, arith}
+use borrow.Author.Differences.{ints}
 use native.Mathlib.Nat.{le-max_left, le-max_right}
 use Rattle.plane.specs.declared.cell.Cell.{Cell}
 use Rattle.plane.specs.Cells.{AllWithin, Within}
@@ -67,3 +68,10 @@ line_within from to n p q = from_within from to n p q 0 (suc (reach from to)) (o
 
 pub line_joins : (from to : Cell) → Joins from to (line_cells from to)
 line_joins from to = record { count = line_length from to; first = line_first from to; last = line_last from to; between = line_within from to }
+
+-- the line from a cell to itself
+pub line_alone : (at : Cell) → line_cells at at ≡ at ∷ []
+unfolding line_cells
+line_alone at =
+    let none : 0 ≡ reach at at = omega (arith, ints) in
+    ap (λ n. cells_from at at 0 (suc n)) (sym none) ∙ ap (λ p. p ∷ []) (cell_first at at)

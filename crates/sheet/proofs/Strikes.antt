@@ -1,6 +1,6 @@
 -- A stroke, by what was found before its cells and by what came of them.
-use Rattle.std.proofs.Common.{◌≡◌, ℕ, ◌<◌, ◌≤◌, Bool, true, false, cond, not, ◌&&◌, ltb, leb, List, [], ◌∷◌, length, Some, None, Ok, Err, Option, sym, refl, ap, ◌∙◌, arith}
-use Rattle.std.proofs.lemmas.Bool.{cond-true, cond-false, leb-false, lt-ltb, le-ltb, ltb-false}
+use Rattle.std.proofs.Common.{◌≡◌, ℕ, ◌<◌, ◌≤◌, Bool, true, false, cond, not, ◌&&◌, ltb, leb, List, length, Some, None, Ok, Err, Option, refl, ap, ◌∙◌, arith}
+use Rattle.std.proofs.lemmas.Bool.{cond-false, leb-false, le-ltb, ltb-false}
 use Rattle.plane.specs.declared.cell.Cell.{Cell}
 use Rattle.plane.specs.Cells.{Within, inside}
 use Rattle.plane.specs.Meaning.{Meaning}
@@ -11,10 +11,8 @@ use Rattle.lines.specs.Lines.{top_length}
 use Rattle.sheet.specs.declared.mark.Mark.{Mark}
 use Rattle.sheet.specs.declared.refusal.StrokeRefused.{StrokeRefused}
 use Rattle.sheet.specs.declared.refusal.StrokeRefused.TheVariants.{TooManyStrokes, Ink, OffSpan, TooLong}
-use Rattle.sheet.specs.declared.refusal.LayRefused.{LayRefused}
-use Rattle.sheet.specs.Laying.{Laid, lay_all, lay_answer, lay_board, lay_next, lay_refusal}
-use Rattle.sheet.specs.Strokes.{Stroked, attempt, by_laying, entry_refusal, length_refusal, or_else, stroke_refusal, stroked, strokes_after, top_strokes, verdict}
-use Rattle.sheet.proofs.Ahead.{lay_none, lay_some, stays}
+use Rattle.sheet.specs.Laying.{Laid, lay_all}
+use Rattle.sheet.specs.Strokes.{attempt, entry_refusal, length_refusal, or_else, stroke_refusal, stroked, laid_of, strokes_after, told, top_strokes, verdict}
 
 -- a verdict tells its refusal
 pub verdict_none : (o : Option StrokeRefused) (u : Unit {0}) → Ok u ≡ verdict o → o ≡ None
@@ -49,60 +47,27 @@ entered m strokes mark from to e =
       end = inside_within m.span to t.3;
     }
 
-module _ (m : Meaning) (strokes : ℕ) (b : Board) (mark : Mark) (from to : Cell) (cells : List Cell) where
-  by_refusal : (o : Option StrokeRefused) → stroke_refusal m strokes mark from to cells ≡ o → stroked m strokes b mark from to cells ≡ attempt o strokes b (lay_all m b mark cells)
-  by_refusal o e = ap (λ r. attempt r strokes b (lay_all m b mark cells)) e
-
+module _ (m : Meaning) (strokes : ℕ) (mark : Mark) (from to : Cell) (cells : List Cell) where
   -- refused before its cells were counted
-  pub stroked_barred : (why : StrokeRefused) → entry_refusal m strokes mark from to ≡ Some why → stroked m strokes b mark from to cells ≡ attempt (Some why) strokes b (lay_all m b mark cells)
-  stroked_barred why e = by_refusal (Some why) (ap (λ o. or_else o (length_refusal (length cells))) e)
+  pub refused_first : (why : StrokeRefused) → entry_refusal m strokes mark from to ≡ Some why → stroke_refusal m strokes mark from to cells ≡ Some why
+  refused_first why e = ap (λ o. or_else o (length_refusal (length cells))) e
 
-  -- refused for the number of its cells
-  pub stroked_long : entry_refusal m strokes mark from to ≡ None → top_length < length cells → stroked m strokes b mark from to cells ≡ attempt (Some TooLong) strokes b (lay_all m b mark cells)
-  stroked_long e h = by_refusal (Some TooLong) (ap (λ o. or_else o (length_refusal (length cells))) e ∙ cond-true (ltb top_length (length cells)) (Some TooLong) None (lt-ltb top_length (length cells) h))
-
-  -- its cells were laid, until one stopped
-  pub stroked-laid : entry_refusal m strokes mark from to ≡ None → length cells ≤ top_length → stroked m strokes b mark from to cells ≡ attempt None strokes b (lay_all m b mark cells)
-  stroked-laid e h = by_refusal None (ap (λ o. or_else o (length_refusal (length cells))) e ∙ cond-false (ltb top_length (length cells)) (Some TooLong) None (le-ltb top_length (length cells) h))
+  -- not refused
+  pub refused_not : entry_refusal m strokes mark from to ≡ None → length cells ≤ top_length → stroke_refusal m strokes mark from to cells ≡ None
+  refused_not e h = ap (λ o. or_else o (length_refusal (length cells))) e ∙ cond-false (ltb top_length (length cells)) (Some TooLong) None (le-ltb top_length (length cells) h)
 
   -- a stroke that lays a cell was made on a sheet with room for it
-  pub room_for : 0 < (stroked m strokes b mark from to cells).laid → strokes < top_strokes
-  room_for h = go (entry_refusal m strokes mark from to) refl
+  pub room_for : (b : Board) → 0 < (stroked m strokes b mark from to cells).laid → strokes < top_strokes
+  room_for b h = go (entry_refusal m strokes mark from to) refl
     where
       go : (o : Option StrokeRefused) → entry_refusal m strokes mark from to ≡ o → strokes < top_strokes
-      go (Some why) e = absurd (let z : (stroked m strokes b mark from to cells).laid ≡ 0 = ap (λ (s : Stroked). s.laid) (stroked_barred why e) in omega arith)
+      go (Some why) e = absurd (let z : (stroked m strokes b mark from to cells).laid ≡ 0 = ap (λ o. (attempt o strokes b (lay_all m b mark cells)).laid) (refused_first why e) in omega arith)
       go None e = (entered m strokes mark from to e).room
 
--- ---- a stroke by its parts
-pub record Drawn (s : Stroked) (refusal : Option StrokeRefused) (laid : ℕ) (after : Board) : Type 0 where
-  pub why : refusal ≡ s.refusal
-  pub count : laid ≡ s.laid
-  pub board : after ≡ s.board
-
-parts : (s : Stroked) (o : Option StrokeRefused) (strokes : ℕ) (b : Board) (l : Laid) → s ≡ attempt o strokes b l → Drawn s (attempt o strokes b l).refusal (attempt o strokes b l).laid (attempt o strokes b l).board
-parts s o strokes b l e = record { why = sym (ap (λ (t : Stroked). t.refusal) e); count = sym (ap (λ (t : Stroked). t.laid) e); board = sym (ap (λ (t : Stroked). t.board) e) }
-
-module _ (m : Meaning) (strokes : ℕ) (b : Board) (mark : Mark) (from to : Cell) (cells : List Cell) where
-  pub drawn_barred : (why : StrokeRefused) → Err why ≡ verdict (entry_refusal m strokes mark from to) → Drawn (stroked m strokes b mark from to cells) (Some why) 0 b
-  drawn_barred why e = parts (stroked m strokes b mark from to cells) (Some why) strokes b (lay_all m b mark cells) (stroked_barred m strokes b mark from to cells why (verdict_some (entry_refusal m strokes mark from to) why e))
-
-  pub drawn_long : (u : Unit {0}) → Ok u ≡ verdict (entry_refusal m strokes mark from to) → top_length < length cells → Drawn (stroked m strokes b mark from to cells) (Some TooLong) 0 b
-  drawn_long u e h = parts (stroked m strokes b mark from to cells) (Some TooLong) strokes b (lay_all m b mark cells) (stroked_long m strokes b mark from to cells (verdict_none (entry_refusal m strokes mark from to) u e) h)
-
-  pub drawn_laid : (u : Unit {0}) → Ok u ≡ verdict (entry_refusal m strokes mark from to) → length cells ≤ top_length → (l : Laid) → lay_all m b mark cells ≡ l → Drawn (stroked m strokes b mark from to cells) (by_laying l.stop) l.count l.board
-  drawn_laid u e h l f =
-      parts (stroked m strokes b mark from to cells) None strokes b l
-      (stroked-laid m strokes b mark from to cells (verdict_none (entry_refusal m strokes mark from to) u e) h ∙ ap (attempt None strokes b) f)
-
--- ---- the one cell of a dot
-pub dot_laid : (m : Meaning) (b : Board) (at : Cell) (mark : Mark) (u : Unit {0}) → Ok u ≡ lay_answer (lay_refusal m b at mark) → lay_all m b mark (at ∷ []) ≡ record { count = 1; stop = None; board = lay_board m b at mark }
-dot_laid m b at mark u e = ap (λ o. lay_next o b (lay_all m (lay_board m b at mark) mark [])) (lay_none (lay_refusal m b at mark) u e)
-
-pub dot_stopped : (m : Meaning) (b : Board) (at : Cell) (mark : Mark) (why : LayRefused) → Err why ≡ lay_answer (lay_refusal m b at mark) → lay_all m b mark (at ∷ []) ≡ record { count = 0; stop = Some why; board = lay_board m b at mark }
-dot_stopped m b at mark why e =
-    let refused = lay_some (lay_refusal m b at mark) why e in
-    ap (λ o. lay_next o b (lay_all m (lay_board m b at mark) mark [])) refused
-    ∙ ap (λ z. record { count = 0; stop = Some why; board = z }) (sym (stays m b at mark why refused))
+-- the answer of a stroke tells how many cells it laid
+pub laid_told : (o : Option StrokeRefused) (n : ℕ) → laid_of (told (verdict o) n) ≡ n
+laid_told (Some why) n = refl
+laid_told None n = refl
 
 -- ---- the strokes of the sheet
 counted : (o : Option StrokeRefused) (strokes : ℕ) (b : Board) (l : Laid) → strokes_after strokes (attempt o strokes b l).laid ≡ (attempt o strokes b l).strokes

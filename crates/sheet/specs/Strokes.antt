@@ -77,6 +77,15 @@ abbrev pub told : Result (Unit {0}) StrokeRefused → ℕ → Result ℕ StrokeS
 told (Ok done) laid = Ok laid
 told (Err why) laid = Err (record { refusal = why; laid = laid })
 
+-- what laying the cells of a stroke answers
+abbrev pub laying_answer : Laid → Result ℕ StrokeStopped
+laying_answer l = told (verdict (by_laying l.stop)) l.count
+
+-- how many cells a stroke laid, by its answer
+abbrev pub laid_of : Result ℕ StrokeStopped → ℕ
+laid_of (Ok laid) = laid
+laid_of (Err stopped) = stopped.laid
+
 -- what a stroke answers
 abbrev pub stroke_answer : Stroked → Result ℕ StrokeStopped
 stroke_answer s = told (verdict s.refusal) s.laid

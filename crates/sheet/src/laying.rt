@@ -4,9 +4,10 @@ ghost use Rattle.plane.specs.Cells.{AllWithin, Within};
 ghost use Rattle.lines.specs.Lines.{line_cells};
 ghost use Rattle.canvas.specs.Board.{put_board, put_refusal};
 ghost use Rattle.sheet.specs.Laying.{by_canvas, lay_all, lay_answer, lay_board, lay_refusal};
+ghost use Rattle.sheet.specs.Strokes.{laying_answer};
 
 use super::mark::Mark;
-use super::refusal::LayRefused;
+use super::refusal::{LayRefused, StrokeRefused, StrokeStopped};
 use canvas::canvas::Canvas;
 use lines::line::Line;
 use plane::cell::Cell;
@@ -42,24 +43,24 @@ pub(crate) fn lay<S: Symmetry, C: Canvas>(
     put_home(canvas, found.home, tint(found.kinds, mark.ink))
 }
 
-// Lays the cells of a line within the span, in order until one stops, and counts those that it laid.
+// Lays the cells of a line within the span, in order until one stops, and answers how many it laid.
 pub(crate) fn lay_line<S: Symmetry, C: Canvas>(
     symmetry: &S,
     canvas: &mut C,
     line: &Line,
     mark: Mark,
-    laid: &mut u16,
-) -> Result<(), LayRefused>
-    requires within { AllWithin (S.Symmetry.meaning symmetry.now).span (line_cells line.now.from line.now.to) }
-    requires none { laid.old ≡ 0 }
-    ensures answer { result ≡ lay_answer (lay_all (S.Symmetry.meaning symmetry.now) (C.Canvas.board canvas.old) mark (line_cells line.now.from line.now.to)).stop }
-    ensures count { laid.new ≡ (lay_all (S.Symmetry.meaning symmetry.now) (C.Canvas.board canvas.old) mark (line_cells line.now.from line.now.to)).count }
+) -> Result<u16, StrokeStopped>
+    requires { AllWithin (S.Symmetry.meaning symmetry.now).span (line_cells line.now.from line.now.to) }
+    ensures answer { result ≡ laying_answer (lay_all (S.Symmetry.meaning symmetry.now) (C.Canvas.board canvas.old) mark (line_cells line.now.from line.now.to)) }
     ensures after { C.Canvas.board canvas.new ≡ (lay_all (S.Symmetry.meaning symmetry.now) (C.Canvas.board canvas.old) mark (line_cells line.now.from line.now.to)).board }
 {
-    let cells = line.cells();
-    for i in 0..cells {
-        lay(symmetry, canvas, line.cell(i), mark)?;
-        *laid += 1;
+    let mut laid = 0;
+    for at in line.iter() {
+        lay(symmetry, canvas, at, mark).map_err(|why| StrokeStopped {
+            refusal: StrokeRefused::from(why),
+            laid,
+        })?;
+        laid += 1;
     }
-    Ok(())
+    Ok(laid)
 }

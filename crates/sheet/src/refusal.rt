@@ -56,6 +56,18 @@ impl From<LayRefused> for StrokeRefused {
     }
 }
 
+// A stroke that is refused lays nothing.
+impl From<StrokeRefused> for StrokeStopped {
+    ghost from_gives = { λ why s. s ≡ record { refusal = why; laid = 0 } };
+
+    fn from(value: StrokeRefused) -> StrokeStopped {
+        StrokeStopped {
+            refusal: value,
+            laid: 0,
+        }
+    }
+}
+
 // A line that is too long is a stroke that is.
 impl From<LineRefused> for StrokeRefused {
     ghost from_gives = { λ _ r. r ≡ TooLong };

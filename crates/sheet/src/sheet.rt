@@ -1,11 +1,49 @@
 // Open and closed sheets. A canvas and a symmetry are given at each call.
 ghost use Rattle.std.specs.Prelude.{◌≡◌};
 ghost use Rattle.canvas.specs.Board.{cleared};
+ghost use Rattle.views.specs.Shows.{shown};
+ghost use Rattle.views.specs.Windows.{window_answer, window_output};
 
 use canvas::canvas::Canvas;
+use plane::cell::Cell;
+use plane::fold::FoldRefused;
+use plane::symmetry::Symmetry;
+use views::refusal::WindowRefused;
+use views::{show, window};
 
-mod closed;
 mod opened;
+
+// What every sheet allows: shows and windows.
+pub trait Sheet {
+    // The ink that a cell shows.
+    fn show<S: Symmetry, C: Canvas>(
+        &self,
+        symmetry: &S,
+        canvas: &C,
+        at: Cell,
+    ) -> Result<u8, FoldRefused>
+        ensures { result ≡ shown (S.Symmetry.meaning symmetry.now) (C.Canvas.board canvas.now) at }
+    {
+        show::show(symmetry, canvas, at)
+    }
+
+    // Writes a binary PPM picture of the cells from a corner on, and answers how many bytes it has.
+    fn window<S: Symmetry, C: Canvas>(
+        &self,
+        symmetry: &S,
+        canvas: &C,
+        corner: Cell,
+        width: i64,
+        height: i64,
+        palette: &[u8],
+        output: &mut [u8],
+    ) -> Result<usize, WindowRefused>
+        ensures answer { result ≡ window_answer (S.Symmetry.meaning symmetry.now) corner width height palette.now output.old }
+        ensures output { output.new ≡ window_output (S.Symmetry.meaning symmetry.now) (C.Canvas.board canvas.now) corner width height palette.now output.old }
+    {
+        window::window(symmetry, canvas, corner, width, height, palette, output)
+    }
+}
 
 // A sheet that takes strokes. It is neither copied nor dropped.
 pub struct OpenSheet {
@@ -24,6 +62,10 @@ pub struct Quote {
     pub held: u32,
     pub strokes: u16,
 }
+
+impl Sheet for OpenSheet {}
+
+impl Sheet for ClosedSheet {}
 
 impl OpenSheet {
     // Clears the canvas and opens a sheet with no strokes.

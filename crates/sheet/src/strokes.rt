@@ -1,8 +1,10 @@
 // Strokes, before a sheet counts them.
-ghost use Rattle.std.specs.Prelude.{◌≡◌, ◌<◌};
-ghost use Rattle.sheet.specs.Strokes.{dotted, entry_refusal, lined, strokes_after, told, verdict};
+ghost use Rattle.std.specs.Prelude.{◌≡◌, ◌<◌, MatchResult, None, Some};
+ghost use Rattle.lines.specs.Lines.{line_cells};
+ghost use Rattle.plane.specs.Cells.{AllWithin};
+ghost use Rattle.sheet.specs.Strokes.{entry_refusal, laid_of, lined, stroke_answer, stroke_refusal, strokes_after, verdict};
 
-use super::laying::{lay, lay_line};
+use super::laying::lay_line;
 use super::mark::Mark;
 use super::refusal::{StrokeRefused, StrokeStopped};
 use canvas::canvas::Canvas;
@@ -20,61 +22,57 @@ fn admit<S: Symmetry>(
 ) -> Result<(), StrokeRefused>
     ensures { result ≡ verdict (entry_refusal (S.Symmetry.meaning symmetry.now) strokes mark from to) }
 {
-    if strokes >= 65535 {
+    if strokes == u16::MAX {
         return Err(StrokeRefused::TooManyStrokes);
     }
     if mark.ink > 15 {
         return Err(StrokeRefused::Ink);
     }
     let span = symmetry.span();
-    if !from.is_within(span) {
-        return Err(StrokeRefused::OffSpan);
-    }
-    if !to.is_within(span) {
+    if !from.is_within(span) || !to.is_within(span) {
         return Err(StrokeRefused::OffSpan);
     }
     Ok(())
 }
 
-// Lays a dot on a sheet of so many strokes, and counts its cell if it is laid.
-pub(crate) fn draw_dot<S: Symmetry, C: Canvas>(
+// The line of a stroke that may begin.
+fn begin<S: Symmetry>(
     symmetry: &S,
-    canvas: &mut C,
     strokes: u16,
-    at: Cell,
+    from: Cell,
+    to: Cell,
     mark: Mark,
-    laid: &mut u16,
-) -> Result<(), StrokeRefused>
-    requires { laid.old ≡ 0 }
-    ensures answer { result ≡ verdict (dotted (S.Symmetry.meaning symmetry.now) strokes (C.Canvas.board canvas.old) at mark).refusal }
-    ensures count { laid.new ≡ (dotted (S.Symmetry.meaning symmetry.now) strokes (C.Canvas.board canvas.old) at mark).laid }
-    ensures after { C.Canvas.board canvas.new ≡ (dotted (S.Symmetry.meaning symmetry.now) strokes (C.Canvas.board canvas.old) at mark).board }
+) -> Result<Line, StrokeRefused>
+    ensures { MatchResult result (λ line. (stroke_refusal (S.Symmetry.meaning symmetry.now) strokes mark from to (line_cells from to) ≡ None) × (line.from ≡ from) × (line.to ≡ to) × AllWithin (S.Symmetry.meaning symmetry.now).span (line_cells from to)) (λ why. stroke_refusal (S.Symmetry.meaning symmetry.now) strokes mark from to (line_cells from to) ≡ Some why) }
 {
-    admit(symmetry, strokes, at, at, mark)?;
-    lay(symmetry, canvas, at, mark)?;
-    *laid = 1;
-    Ok(())
+    admit(symmetry, strokes, from, to, mark)?;
+    Ok(Line::between(from, to)?)
 }
 
-// Lays a line on a sheet of so many strokes, and counts its cells that are laid.
-pub(crate) fn draw_line<S: Symmetry, C: Canvas>(
+// Lays a line on a sheet of so many strokes, and answers how many of its cells were laid.
+pub(crate) fn draw<S: Symmetry, C: Canvas>(
     symmetry: &S,
     canvas: &mut C,
     strokes: u16,
     from: Cell,
     to: Cell,
     mark: Mark,
-    laid: &mut u16,
-) -> Result<(), StrokeRefused>
-    requires { laid.old ≡ 0 }
-    ensures answer { result ≡ verdict (lined (S.Symmetry.meaning symmetry.now) strokes (C.Canvas.board canvas.old) from to mark).refusal }
-    ensures count { laid.new ≡ (lined (S.Symmetry.meaning symmetry.now) strokes (C.Canvas.board canvas.old) from to mark).laid }
+) -> Result<u16, StrokeStopped>
+    ensures answer { result ≡ stroke_answer (lined (S.Symmetry.meaning symmetry.now) strokes (C.Canvas.board canvas.old) from to mark) }
     ensures after { C.Canvas.board canvas.new ≡ (lined (S.Symmetry.meaning symmetry.now) strokes (C.Canvas.board canvas.old) from to mark).board }
 {
-    admit(symmetry, strokes, from, to, mark)?;
-    let line = Line::between(from, to)?;
-    lay_line(symmetry, canvas, &line, mark, laid)?;
-    Ok(())
+    let line = begin(symmetry, strokes, from, to, mark)?;
+    lay_line(symmetry, canvas, &line, mark)
+}
+
+// How many cells a stroke laid, also where it stopped.
+pub(crate) fn laid(drawn: Result<u16, StrokeStopped>) -> u16
+    ensures { result ≡ laid_of drawn }
+{
+    match drawn {
+        Ok(laid) => laid,
+        Err(stopped) => stopped.laid,
+    }
 }
 
 // The strokes after one that laid so many cells.
@@ -83,14 +81,4 @@ pub(crate) fn strokes_after(strokes: u16, laid: u16) -> u16
     ensures { result ≡ strokes_after strokes laid }
 {
     if laid == 0 { strokes } else { strokes + 1 }
-}
-
-// A result with the number of cells that were laid.
-pub(crate) fn tell(outcome: Result<(), StrokeRefused>, laid: u16) -> Result<u16, StrokeStopped>
-    ensures { result ≡ told outcome laid }
-{
-    match outcome {
-        Ok(()) => Ok(laid),
-        Err(refusal) => Err(StrokeStopped { refusal, laid }),
-    }
 }

@@ -1,18 +1,19 @@
-use Rattle.std.proofs.Common.{◌<◌, [], ◌∷◌, ap, ◌∙◌, subst, ap₂}
+use Rattle.std.proofs.Common.{◌≡◌, ap, ◌∙◌}
+use Rattle.lines.proofs.Cells.{line_alone}
 use Rattle.sheet.specs.Laying.{marked}
-use Rattle.sheet.specs.Strokes.{strokes_after, told}
-use Rattle.sheet.proofs.Strikes.{room_for, strokes_counted}
+use Rattle.sheet.specs.Strokes.{Stroked, dotted, lined, stroke_answer, stroked}
 use Rattle.sheet.proofs.sheet.OpenSheet.dot.Goals as goal
-
-pub strokes_after-self-requires : goal.strokes_after-self-requires
-strokes_after-self-requires g c = λ some.
-    room_for (g.S.Symmetry.meaning c.args.symmetry.now) c.args.self.now.strokes (g.C.Canvas.board c.args.canvas.now) (marked c.args.ink) c.args.at c.args.at (c.args.at ∷ []) (subst (λ n. 0 < n) c.draw_dot-result.ensures.count some)
 
 pub returns : goal.returns
 returns g c =
-    let t = c.draw_dot-result.ensures in
+    let m = g.S.Symmetry.meaning c.args.symmetry.now in
+    let b = g.C.Canvas.board c.args.canvas.now in
+    let strokes = c.args.self.now.strokes in
+    let at = c.args.at in
+    let mark = marked c.args.ink in
+    let same : lined m strokes b at at mark ≡ dotted m strokes b at mark = ap (stroked m strokes b mark at at) (line_alone at) in
     record {
-      answer = c.tell.ensures ∙ ap₂ told t.answer t.count;
-      sheet = c.strokes_after-self.ensures ∙ ap (strokes_after c.args.self.now.strokes) t.count ∙ strokes_counted (g.S.Symmetry.meaning c.args.symmetry.now) c.args.self.now.strokes (g.C.Canvas.board c.args.canvas.now) (marked c.args.ink) c.args.at c.args.at (c.args.at ∷ []);
-      after = t.after;
+      answer = c.line.ensures.answer ∙ ap stroke_answer same;
+      sheet = c.line.ensures.sheet ∙ ap (λ (s : Stroked). s.strokes) same;
+      after = c.line.ensures.after ∙ ap (λ (s : Stroked). s.board) same;
     }
