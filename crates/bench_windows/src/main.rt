@@ -7,7 +7,7 @@ use dense::dense::DenseCanvas;
 use groups::tabled::Tabled;
 use plane::cell::Cell;
 use plane::symmetry::Symmetry;
-use sheet::sheet::{ClosedSheet, OpenSheet};
+use sheet::sheet::{ClosedSheet, OpenSheet, Sheet};
 use std::time::Instant;
 
 const WINDOWS: u8 = 200;

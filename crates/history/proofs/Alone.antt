@@ -8,7 +8,7 @@ use Rattle.ledger.proofs.Single.{strikes_one}
 use Rattle.history.specs.declared.calls.Drawing.{Drawing}
 use Rattle.history.specs.declared.calls.Drawing.TheVariants.{Dot, Line, Look as Looks}
 use Rattle.history.specs.declared.calls.Answer.{Answer}
-use Rattle.history.specs.declared.calls.Drawn.{Drawn}
+use Rattle.history.specs.declared.calls.Answered.{Answered}
 use Rattle.history.specs.Histories.{Lent, past, drawing_room, Draws, DrawsAll, drawing_calls}
 
 module _ (s : Setting) (lent lent' : Lent) where
@@ -17,7 +17,7 @@ module _ (s : Setting) (lent lent' : Lent) where
   draws_one at at' A B C (Line p q ink) x y h k = strikes_one s p q (line_cells p q) (marked ink) A B C h.0 k.0 h.1 k.1
   draws_one at at' A B C (Looks look) x y h k = h.0 ∙ sym k.0
 
-  pub draws_all_one : (es fs : List Drawn) (at at' end end' : ℕ) (A B C : Page) → drawing_calls es ≡ drawing_calls fs → DrawsAll s lent at A es end B → DrawsAll s lent' at' A fs end' C → B ≡ C
+  pub draws_all_one : (es fs : List (Answered Drawing)) (at at' end end' : ℕ) (A B C : Page) → drawing_calls es ≡ drawing_calls fs → DrawsAll s lent at A es end B → DrawsAll s lent' at' A fs end' C → B ≡ C
   draws_all_one [] [] at at' end end' A B C c h k = h.1 ∙ sym k.1
   draws_all_one [] (f ∷ fs) at at' end end' A B C c h k = absurd (let z : ◌≡◌ {A = ℕ} 0 1 = cc in omega arith)
   draws_all_one (e ∷ es) [] at at' end end' A B C c h k = absurd (let z : ◌≡◌ {A = ℕ} 0 1 = cc in omega arith)

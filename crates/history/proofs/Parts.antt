@@ -58,10 +58,6 @@ pub record Patched (at n : ℕ) (new out more : List ℕ) : Type 0 where
   pub late : drop (at + n) more ≡ drop (at + n) out
   pub long : length more ≡ length out
 
--- nothing changed
-pub patch_none : (at : ℕ) (out : List ℕ) → Patched at 0 [] out out
-patch_none at out = record { early = refl; here = refl; late = refl; long = refl }
-
 module _ (at n : ℕ) (new out : List ℕ) (h : at ≤ length out) (e : length new ≡ length (part at n out)) where
   size : length new ≡ min n (length out - at)
   size = e ∙ length-take n (drop at out) ∙ ap (min n) (length-drop at out)

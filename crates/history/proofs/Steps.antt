@@ -10,7 +10,7 @@ use Rattle.lines.proofs.Cells.{line_within}
 use Rattle.views.specs.declared.refusal.WindowRefused.TheVariants.{Side, OffSpan, Palette, Output}
 use Rattle.views.specs.Shows.{shown}
 use Rattle.plane.specs.Rectangles.{window_cells, wrong_side}
-use Rattle.views.specs.Windows.{picture, picture_size, window_answer, written_over, unless_refused, window_output}
+use Rattle.views.specs.Windows.{picture, picture_size, window_answer, written_over, unless_refused, window_output, placed}
 use Rattle.views.proofs.Pixels.{picture-length}
 use Rattle.sheet.specs.Laying.{marked}
 use Rattle.ledger.specs.Ledgers.{Ledger}
@@ -23,7 +23,6 @@ use Rattle.ledger.proofs.Keeping.{Keeps}
 use Rattle.ledger.proofs.Strokes.{striking}
 use Rattle.ledger.proofs.Sights.{showing, painting}
 use Rattle.ledger.proofs.Counted.{fewest}
-use Rattle.history.specs.declared.calls.Window.{Window}
 use Rattle.history.specs.declared.calls.Look.{Look}
 use Rattle.history.specs.declared.calls.Look.TheVariants.{Show, Window as Windows}
 use Rattle.history.specs.declared.calls.Drawing.{Drawing}
@@ -33,7 +32,7 @@ use Rattle.history.specs.declared.calls.Viewing.TheVariants.{Look as LooksBack, 
 use Rattle.history.specs.declared.calls.Answer.{Answer}
 use Rattle.history.specs.Histories.{Lent, part, past, look_room, drawing_room, viewing_room, Seen, Draws, Views}
 use Rattle.history.specs.Outright.{look_answer, look_output, draw_answer, draw_strokes, draw_board, draw_output, view_answer, view_output}
-use Rattle.history.proofs.Parts.{Patched, patch, patch_none, part_front, drop_past}
+use Rattle.history.proofs.Parts.{patch, part_front, drop_past}
 
 -- a window leaves its output as long as it was
 pub window_long : (m : Meaning) (b : Board) (corner : Cell) (width height : ℤ) (palette output : List ℕ) → length (window_output m b corner width height palette output) ≡ length output
@@ -56,6 +55,20 @@ window_long m b corner width height palette output =
     go false true false t e = refl
     go false true true true e = refl
     go false true true false e = over (ltb-false (length output) (picture_size (nat_abs width) (nat_abs height)) e)
+
+-- every call leaves its part as long as it was
+look_long : (m : Meaning) (b : Board) (palette : List ℕ) (look : Look) (bytes : List ℕ) → length (look_output m b palette look bytes) ≡ length bytes
+look_long m b palette (Show q) bytes = refl
+look_long m b palette (Windows w) bytes = window_long m b w.corner w.width w.height (take w.palette palette) bytes
+
+pub draw_long : (m : Meaning) (b : Board) (palette : List ℕ) (call : Drawing) (bytes : List ℕ) → length (draw_output m b palette call bytes) ≡ length bytes
+draw_long m b palette (Dot p ink) bytes = refl
+draw_long m b palette (Line p q ink) bytes = refl
+draw_long m b palette (Looks look) bytes = look_long m b palette look bytes
+
+pub view_long : (m : Meaning) (b : Board) (palette : List ℕ) (call : Viewing) (bytes : List ℕ) → length (view_output m b palette call bytes) ≡ length bytes
+view_long m b palette (LooksBack look) bytes = look_long m b palette look bytes
+view_long m b palette Quotes bytes = refl
 
 -- the output so far: up to a place it may have changed, from there on it is as it was
 pub record Reached (before : List ℕ) (at : ℕ) (out : List ℕ) : Type 0 where
@@ -80,15 +93,16 @@ module _ (palette before : List ℕ) where
     part_same : (n : ℕ) → part at n out ≡ part at n before
     part_same n = ap (take n) so_far.rest
 
-    moved : (n : ℕ) (new more : List ℕ) → Patched at n new out more → Moved n more
-    moved n new more p =
-        let long : length more ≡ length before = p.long ∙ so_far.long in
+    moved : (n : ℕ) (new : List ℕ) → length new ≡ length (part at n out) → Moved n (placed out at new)
+    moved n new e =
+        let p = patch at n new out (subst (λ k. at ≤ k) (sym so_far.long) so_far.near) e in
+        let long : length (placed out at new) ≡ length before = p.long ∙ so_far.long in
         record {
           early = p.early;
           reached = record {
             near = omega arith;
             long = long;
-            rest = drop_past more (length before) at n long ∙ p.late ∙ sym (drop-drop n at out) ∙ ap (drop n) so_far.rest ∙ drop-drop n at before ∙ sym (drop_past before (length before) at n refl);
+            rest = drop_past (placed out at new) (length before) at n long ∙ p.late ∙ sym (drop-drop n at out) ∙ ap (drop n) so_far.rest ∙ drop-drop n at before ∙ sym (drop_past before (length before) at n refl);
           };
         }
 
@@ -96,22 +110,17 @@ module _ (palette before : List ℕ) where
       abbrev here : Setting
       here = setting m frame
 
-      module _ (L : Ledger) (b : Board) (follows : Follows m L b.inks) where
-        window_patch : (w : Window) → Patched at w.output (window_output m b w.corner w.width w.height (take w.palette palette) (part at w.output out)) out (look_output m b palette (Windows w) at out)
-        window_patch w = patch at w.output (window_output m b w.corner w.width w.height (take w.palette palette) (part at w.output out)) out (subst (λ n. at ≤ n) (sym so_far.long) so_far.near) (window_long m b w.corner w.width w.height (take w.palette palette) (part at w.output out))
-
-        look_moved : (look : Look) → Moved (look_room look) (look_output m b palette look at out)
-        look_moved (Show q) = moved 0 [] out (patch_none at out)
-        look_moved (Windows w) = moved w.output _ (look_output m b palette (Windows w) at out) (window_patch w)
-
-        look_seen : (look : Look) → Onward (past (length before) at (look_room look)) (look_output m b palette look at out) (λ fin. Seen here (lending fin) at L look (Some (look_answer m b palette look at out)))
-        look_seen (Show q) fin long e = (shown m b q, showing m frame cl L b follows q, refl)
-        look_seen (Windows w) fin long e =
-            let more : List ℕ = look_output m b palette (Windows w) at out in
-            let new : List ℕ = window_output m b w.corner w.width w.height (take w.palette palette) (part at w.output out) in
-            let after : part at w.output fin ≡ new = part_front fin more (length before) at w.output long (look_moved (Windows w)).reached.long e ∙ (window_patch w).here in
-            let told : Paints here L w.corner w.width w.height (take w.palette palette) (part at w.output out) new (window_answer m w.corner w.width w.height (take w.palette palette) (part at w.output out)) = painting m frame cl L b follows w.corner w.width w.height (take w.palette palette) (part at w.output out) in
-            (window_answer m w.corner w.width w.height (take w.palette palette) (part at w.output out), subst₂ (λ (xs ys : List ℕ). Paints here L w.corner w.width w.height (take w.palette palette) xs ys (window_answer m w.corner w.width w.height (take w.palette palette) (part at w.output out))) (part_same w.output) (sym after) told, refl)
+      look_seen : (L : Ledger) (b : Board) → Follows m L b.inks → (look : Look) → let bytes = part at (look_room look) out in let more = placed out at (look_output m b palette look bytes) in Onward (past (length before) at (look_room look)) more (λ fin. Seen here (lending fin) at L look (Some (look_answer m b palette look bytes)))
+      look_seen L b follows (Show q) fin long e = (shown m b q, showing m frame cl L b follows q, refl)
+      look_seen L b follows (Windows w) fin long e =
+          let bytes : List ℕ = part at w.output out in
+          let inks : List ℕ = take w.palette palette in
+          let new : List ℕ = window_output m b w.corner w.width w.height inks bytes in
+          let answer = window_answer m w.corner w.width w.height inks bytes in
+          let p = patch at w.output new out (subst (λ k. at ≤ k) (sym so_far.long) so_far.near) (window_long m b w.corner w.width w.height inks bytes) in
+          let after : part at w.output fin ≡ new = part_front fin (placed out at new) (length before) at w.output long (p.long ∙ so_far.long) e ∙ p.here in
+          let told : Paints here L w.corner w.width w.height inks bytes new answer = painting m frame cl L b follows w.corner w.width w.height inks bytes in
+          (answer, subst₂ (λ (xs ys : List ℕ). Paints here L w.corner w.width w.height inks xs ys answer) (part_same w.output) (sym after) told, refl)
 
       -- one call on an open sheet, from page A
       pub record Stepped (call : Drawing) (A : Page) (answer : Answer) (strokes : ℕ) (b : Board) (more : List ℕ) : Type 0 where
@@ -121,23 +130,29 @@ module _ (palette before : List ℕ) where
         pub moved : Moved (drawing_room call) more
         pub draws : Onward (past (length before) at (drawing_room call)) more (λ fin. Draws here (lending fin) at A call (Some answer) after)
 
-      pub stepping : (call : Drawing) (A : Page) (b : Board) → Keeps m frame A.seats A.ledger b → Stepped call A (draw_answer m A.strokes b palette call at out) (draw_strokes m A.strokes b call) (draw_board m A.strokes b call) (draw_output m b palette call at out)
+      draw_moved : (b : Board) (call : Drawing) → Moved (drawing_room call) (placed out at (draw_output m b palette call (part at (drawing_room call) out)))
+      draw_moved b call = moved (drawing_room call) (draw_output m b palette call (part at (drawing_room call) out)) (draw_long m b palette call (part at (drawing_room call) out))
+
+      pub stepping : (call : Drawing) (A : Page) (b : Board) → Keeps m frame A.seats A.ledger b → let bytes = part at (drawing_room call) out in Stepped call A (draw_answer m A.strokes b palette call bytes) (draw_strokes m A.strokes b call) (draw_board m A.strokes b call) (placed out at (draw_output m b palette call bytes))
       stepping (Dot p ink) A b keeps =
           let t = striking m frame cl (marked ink) p p (p ∷ []) A b (λ w. (w.0, tt)) keeps in
-          record { after = t.after; keeps = t.keeps; count = t.strokes; moved = moved 0 [] out (patch_none at out); draws = λ fin long e. (_, t.strikes, refl) }
+          record { after = t.after; keeps = t.keeps; count = t.strokes; moved = draw_moved b (Dot p ink); draws = λ fin long e. (_, t.strikes, refl) }
       stepping (Line p q ink) A b keeps =
           let t = striking m frame cl (marked ink) p q _ A b (λ w. line_within p q m.span w.0 w.1) keeps in
-          record { after = t.after; keeps = t.keeps; count = t.strokes; moved = moved 0 [] out (patch_none at out); draws = λ fin long e. (_, t.strikes, refl) }
+          record { after = t.after; keeps = t.keeps; count = t.strokes; moved = draw_moved b (Line p q ink); draws = λ fin long e. (_, t.strikes, refl) }
       stepping (Looks look) A b keeps =
-          record { after = A; keeps = keeps; count = refl; moved = look_moved A.ledger b keeps.follows look; draws = λ fin long e. (refl, look_seen A.ledger b keeps.follows look fin long e) }
+          record { after = A; keeps = keeps; count = refl; moved = draw_moved b (Looks look); draws = λ fin long e. (refl, look_seen A.ledger b keeps.follows look fin long e) }
 
       -- one call on a sheet that was closed at page A
       pub record Seeing (call : Viewing) (A : Page) (answer : Answer) (more : List ℕ) : Type 0 where
         pub moved : Moved (viewing_room call) more
         pub views : Onward (past (length before) at (viewing_room call)) more (λ fin. Views here (lending fin) at A call (Some answer))
 
-      pub seeing : (call : Viewing) (A : Page) (b : Board) → Keeps m frame A.seats A.ledger b → Seeing call A (view_answer m b.held A.strokes b palette call at out) (view_output m b palette call at out)
-      seeing (LooksBack look) A b keeps = record { moved = look_moved A.ledger b keeps.follows look; views = look_seen A.ledger b keeps.follows look }
+      view_moved : (b : Board) (call : Viewing) → Moved (viewing_room call) (placed out at (view_output m b palette call (part at (viewing_room call) out)))
+      view_moved b call = moved (viewing_room call) (view_output m b palette call (part at (viewing_room call) out)) (view_long m b palette call (part at (viewing_room call) out))
+
+      pub seeing : (call : Viewing) (A : Page) (b : Board) → Keeps m frame A.seats A.ledger b → let bytes = part at (viewing_room call) out in Seeing call A (view_answer m b.held A.strokes b palette call bytes) (placed out at (view_output m b palette call bytes))
+      seeing (LooksBack look) A b keeps = record { moved = view_moved b (LooksBack look); views = look_seen A.ledger b keeps.follows look }
       seeing Quotes A b keeps =
           let t = keeps.laws.counted in
-          record { moved = moved 0 [] out (patch_none at out); views = λ fin long e. (b.held, fewest m cl A.ledger b.inks keeps.follows t.0 b.held t.1 t.2, refl) }
+          record { moved = view_moved b Quotes; views = λ fin long e. (b.held, fewest m cl A.ledger b.inks keeps.follows t.0 b.held t.1 t.2, refl) }

@@ -26,8 +26,7 @@ use Rattle.history.specs.declared.calls.Viewing.{Viewing}
 use Rattle.history.specs.declared.calls.Viewing.TheVariants.{Look as LooksBack, Quote as Quotes}
 use Rattle.history.specs.declared.calls.Answer.{Answer}
 use Rattle.history.specs.declared.calls.Answer.TheVariants.{Stroked, Shown, Windowed, Quoted}
-use Rattle.history.specs.declared.calls.Drawn.{Drawn}
-use Rattle.history.specs.declared.calls.Viewed.{Viewed}
+use Rattle.history.specs.declared.calls.Answered.{Answered}
 use Rattle.history.specs.Histories.{Lent, part, past, look_room, drawing_room, viewing_room, Seen, Draws, Views, DrawsAll, ViewsAll, Closing, drawing_calls, Told}
 use Rattle.history.specs.Twins.{TwinCall, TwinCalls, Agree, TwinsAgree, drawing_answers, viewing_calls, viewing_answers}
 use Rattle.history.proofs.Parts.{part_long, part_rest}
@@ -89,13 +88,13 @@ module _ (m : Meaning) (frame : Cell → Bool) (cl : Classes m) (lent lent' : Le
     rest_more at n end same more e r =
         part_rest lent.after (length lent.before) at n long ∙ ap₂ (λ (xs ys : List ℕ). xs ++ ys) (same e) (more e r) ∙ sym (part_rest lent'.after (length lent.before) at n (long' ∙ sym lengths))
 
-    record Steps (at end end' : ℕ) (cs ds : List Drawn) (B B' : Page) : Type 0 where
+    record Steps (at end end' : ℕ) (cs ds : List (Answered Drawing)) (B B' : Page) : Type 0 where
       pages : Pages m B B'
       answers : drawing_answers cs ≡ drawing_answers ds
       ends : end ≡ end'
       rest : Rest at end
 
-    draws_all_twin : (cs ds : List Drawn) (at end end' : ℕ) (A A' B B' : Page) → TwinCalls here (drawing_calls cs) (drawing_calls ds) → Pages m A A' → DrawsAll here lent at A cs end B → DrawsAll here lent' at A' ds end' B' → Steps at end end' cs ds B B'
+    draws_all_twin : (cs ds : List (Answered Drawing)) (at end end' : ℕ) (A A' B B' : Page) → TwinCalls here (drawing_calls cs) (drawing_calls ds) → Pages m A A' → DrawsAll here lent at A cs end B → DrawsAll here lent' at A' ds end' B' → Steps at end end' cs ds B B'
     draws_all_twin [] [] at end end' A A' B B' t e h k = record {
       pages = subst₂ (Pages m) (sym h.1) (sym k.1) e;
       answers = refl;
@@ -121,18 +120,18 @@ module _ (m : Meaning) (frame : Cell → Bool) (cl : Classes m) (lent lent' : Le
     views_twin at A A' e Quotes x y h k =
         (h.2 ∙ ap₂ (λ (a b : ℕ). Some (Quoted (record { held = a; strokes = b }))) (fewest_twin m cl A.ledger A'.ledger e.ledgers h.0 k.0 h.1 k.1) e.strokes ∙ sym k.2, λ _. refl)
 
-    record Sights (at end end' : ℕ) (vs ws : List Viewed) : Type 0 where
-      answers : map (λ (v : Viewed). v.answer) vs ≡ map (λ (v : Viewed). v.answer) ws
+    record Sights (at end end' : ℕ) (vs ws : List (Answered Viewing)) : Type 0 where
+      answers : map (λ (v : Answered Viewing). v.answer) vs ≡ map (λ (v : Answered Viewing). v.answer) ws
       ends : end ≡ end'
       rest : Rest at end
 
-    views_all_twin : (A A' : Page) → Pages m A A' → (vs ws : List Viewed) (at end end' : ℕ) → map (λ (v : Viewed). v.call) vs ≡ map (λ (v : Viewed). v.call) ws → ViewsAll here lent at A vs end → ViewsAll here lent' at A' ws end' → Sights at end end' vs ws
+    views_all_twin : (A A' : Page) → Pages m A A' → (vs ws : List (Answered Viewing)) (at end end' : ℕ) → map (λ (v : Answered Viewing). v.call) vs ≡ map (λ (v : Answered Viewing). v.call) ws → ViewsAll here lent at A vs end → ViewsAll here lent' at A' ws end' → Sights at end end' vs ws
     views_all_twin A A' e [] [] at end end' c h k = record { answers = refl; ends = h ∙ sym k; rest = λ _ r. subst (λ n. drop n lent.after ≡ drop n lent'.after) h r }
     views_all_twin A A' e [] (w ∷ ws) at end end' c h k = absurd (let z : ◌≡◌ {A = ℕ} 0 1 = cc in omega arith)
     views_all_twin A A' e (v ∷ vs) [] at end end' c h k = absurd (let z : ◌≡◌ {A = ℕ} 0 1 = cc in omega arith)
     views_all_twin A A' e (v ∷ vs) (w ∷ ws) at end end' c h k =
         let first : v.call ≡ w.call = cc in
-        let others : map (λ (v : Viewed). v.call) vs ≡ map (λ (v : Viewed). v.call) ws = cc in
+        let others : map (λ (v : Answered Viewing). v.call) vs ≡ map (λ (v : Answered Viewing). v.call) ws = cc in
         let one = views_twin at A A' e v.call v.answer w.answer h.0 (subst (λ (z : Viewing). Views here lent' at A' z w.answer) (sym first) k.0) in
         let on : past (length lent'.before) at (viewing_room w.call) ≡ past (length lent.before) at (viewing_room v.call) = ap₂ (λ n r. past n at r) (sym lengths) (ap viewing_room (sym first)) in
         let k' : ViewsAll here lent' (past (length lent.before) at (viewing_room v.call)) A' ws end' = subst (λ n. ViewsAll here lent' n A' ws end') on k.1 in
@@ -143,22 +142,22 @@ module _ (m : Meaning) (frame : Cell → Bool) (cl : Classes m) (lent lent' : Le
           rest = rest_more at (viewing_room v.call) end one.1 all.rest;
         }
 
-    record Ending (at end end' : ℕ) (vs ws : Option (List Viewed)) : Type 0 where
+    record Ending (at end end' : ℕ) (vs ws : Option (List (Answered Viewing))) : Type 0 where
       answers : viewing_answers vs ≡ viewing_answers ws
       ends : end ≡ end'
       rest : Rest at end
 
-    closing_twin : (A A' : Page) → Pages m A A' → (vs ws : Option (List Viewed)) (at end end' : ℕ) → viewing_calls vs ≡ viewing_calls ws → Closing here lent at A vs end → Closing here lent' at A' ws end' → Ending at end end' vs ws
+    closing_twin : (A A' : Page) → Pages m A A' → (vs ws : Option (List (Answered Viewing))) (at end end' : ℕ) → viewing_calls vs ≡ viewing_calls ws → Closing here lent at A vs end → Closing here lent' at A' ws end' → Ending at end end' vs ws
     closing_twin A A' e None None at end end' c h k = record { answers = refl; ends = h ∙ sym k; rest = λ _ r. subst (λ n. drop n lent.after ≡ drop n lent'.after) h r }
     closing_twin A A' e None (Some ws) at end end' c h k = absurd (let z : ◌≡◌ {A = ℕ} 0 1 = cc in omega arith)
     closing_twin A A' e (Some vs) None at end end' c h k = absurd (let z : ◌≡◌ {A = ℕ} 0 1 = cc in omega arith)
     closing_twin A A' e (Some vs) (Some ws) at end end' c h k =
-        let calls : map (λ (v : Viewed). v.call) vs ≡ map (λ (v : Viewed). v.call) ws = cc in
+        let calls : map (λ (v : Answered Viewing). v.call) vs ≡ map (λ (v : Answered Viewing). v.call) ws = cc in
         let all = views_all_twin A A' e vs ws at end end' calls h k in
         record { answers = ap (λ (xs : List (Option Answer)). Some xs) all.answers; ends = all.ends; rest = all.rest }
 
 -- a told history agrees with each of its twins
-pub twins_agree : (m : Meaning) (frame : Cell → Bool) → Classes m → (seats : ℕ) (lent : Lent) (drawing : List Drawn) (viewing : Option (List Viewed)) (ink : Cell → ℕ) → Told (setting m frame) seats lent drawing viewing ink → TwinsAgree (setting m frame) seats lent drawing viewing
+pub twins_agree : (m : Meaning) (frame : Cell → Bool) → Classes m → (seats : ℕ) (lent : Lent) (drawing : List (Answered Drawing)) (viewing : Option (List (Answered Viewing))) (ink : Cell → ℕ) → Told (setting m frame) seats lent drawing viewing ink → TwinsAgree (setting m frame) seats lent drawing viewing
 twins_agree m frame cl seats lent drawing viewing ink t lent' drawing' viewing' ink' calls views palettes lengths u =
     let blanks : Pages m (blank seats) (blank seats) = record { ledgers = tt; strokes = refl; seats = refl } in
     let d = draws_all_twin m frame cl lent lent' palettes lengths t.long u.long drawing drawing' 0 t.middle u.middle (blank seats) (blank seats) t.page u.page calls blanks t.drawn u.drawn in
@@ -171,6 +170,6 @@ twins_agree m frame cl seats lent drawing viewing ink t lent' drawing' viewing' 
     }
 
 -- two told histories whose calls were twins when they were passed
-pub both_agree : (m : Meaning) (frame frame' : Cell → Bool) (seats seats' : ℕ) (lent lent' : Lent) (given given' drawing drawing' : List Drawn) (asked asked' viewing viewing' : Option (List Viewed)) (ink' : Cell → ℕ) → frame' ≡ frame → seats' ≡ seats → TwinCalls (setting m frame) (drawing_calls given) (drawing_calls given') → viewing_calls asked ≡ viewing_calls asked' → lent.palette ≡ lent'.palette → length lent.before ≡ length lent'.before → drawing_calls drawing ≡ drawing_calls given → drawing_calls drawing' ≡ drawing_calls given' → viewing_calls viewing ≡ viewing_calls asked → viewing_calls viewing' ≡ viewing_calls asked' → Told (setting m frame') seats' lent' drawing' viewing' ink' → TwinsAgree (setting m frame) seats lent drawing viewing → Agree lent drawing viewing lent' drawing' viewing'
+pub both_agree : (m : Meaning) (frame frame' : Cell → Bool) (seats seats' : ℕ) (lent lent' : Lent) (given given' drawing drawing' : List (Answered Drawing)) (asked asked' viewing viewing' : Option (List (Answered Viewing))) (ink' : Cell → ℕ) → frame' ≡ frame → seats' ≡ seats → TwinCalls (setting m frame) (drawing_calls given) (drawing_calls given') → viewing_calls asked ≡ viewing_calls asked' → lent.palette ≡ lent'.palette → length lent.before ≡ length lent'.before → drawing_calls drawing ≡ drawing_calls given → drawing_calls drawing' ≡ drawing_calls given' → viewing_calls viewing ≡ viewing_calls asked → viewing_calls viewing' ≡ viewing_calls asked' → Told (setting m frame') seats' lent' drawing' viewing' ink' → TwinsAgree (setting m frame) seats lent drawing viewing → Agree lent drawing viewing lent' drawing' viewing'
 both_agree m frame frame' seats seats' lent lent' given given' drawing drawing' asked asked' viewing viewing' ink' ef es calls views ep el ed ed' ev ev' told agree =
     agree lent' drawing' viewing' ink' (subst₂ (TwinCalls (setting m frame)) (sym ed) (sym ed') calls) (ev ∙ views ∙ sym ev') ep el (subst₂ (λ (f : Cell → Bool) (n : ℕ). Told (setting m f) n lent' drawing' viewing' ink') ef es told)

@@ -23,8 +23,7 @@ use Rattle.history.specs.declared.calls.Viewing.{Viewing}
 use Rattle.history.specs.declared.calls.Viewing.TheVariants.{Look as LooksBack, Quote as Quotes}
 use Rattle.history.specs.declared.calls.Answer.{Answer}
 use Rattle.history.specs.declared.calls.Answer.TheVariants.{Stroked, Shown, Windowed, Quoted}
-use Rattle.history.specs.declared.calls.Drawn.{Drawn}
-use Rattle.history.specs.declared.calls.Viewed.{Viewed}
+use Rattle.history.specs.declared.calls.Answered.{Answered}
 
 pub record Lent : Type 0 where
   pub palette : List ℕ
@@ -70,31 +69,31 @@ Views s lent at A (LooksBack look) answer = Seen s lent at A.ledger look answer
 Views s lent at A Quotes answer = (n : ℕ) × Fewest s.operations A.ledger n × (answer ≡ Some (Quoted (record { held = n; strokes = A.strokes })))
 
 -- the calls on an open sheet in order, from page A to page B, and from one place of the output to another
-abbrev pub DrawsAll : Setting → Lent → ℕ → Page → List Drawn → ℕ → Page → Type 0
+abbrev pub DrawsAll : Setting → Lent → ℕ → Page → List (Answered Drawing) → ℕ → Page → Type 0
 DrawsAll s lent at A [] end B = (end ≡ at) × (B ≡ A)
 DrawsAll s lent at A (e ∷ es) end B = (M : Page) × Draws s lent at A e.call e.answer M × DrawsAll s lent (past (length lent.before) at (drawing_room e.call)) M es end B
 
-abbrev pub ViewsAll : Setting → Lent → ℕ → Page → List Viewed → ℕ → Type 0
+abbrev pub ViewsAll : Setting → Lent → ℕ → Page → List (Answered Viewing) → ℕ → Type 0
 ViewsAll s lent at A [] end = end ≡ at
 ViewsAll s lent at A (e ∷ es) end = Views s lent at A e.call e.answer × ViewsAll s lent (past (length lent.before) at (viewing_room e.call)) A es end
 
 -- the calls on the closed sheet, if it was closed
-abbrev pub Closing : Setting → Lent → ℕ → Page → Option (List Viewed) → ℕ → Type 0
+abbrev pub Closing : Setting → Lent → ℕ → Page → Option (List (Answered Viewing)) → ℕ → Type 0
 Closing s lent at A None end = end ≡ at
 Closing s lent at A (Some vs) end = ViewsAll s lent at A vs end
 
-abbrev pub drawing_calls : List Drawn → List Drawing
+abbrev pub drawing_calls : List (Answered Drawing) → List Drawing
 drawing_calls = map (λ e. e.call)
 
 -- a history on a canvas with so many seats, at the end of which each cell shows an ink
-pub record Told (s : Setting) (seats : ℕ) (lent : Lent) (drawing : List Drawn) (viewing : Option (List Viewed)) (ink : Cell → ℕ) : Type 0 where
+pub record Told (s : Setting) (seats : ℕ) (lent : Lent) (drawing : List (Answered Drawing)) (viewing : Option (List (Answered Viewing))) (ink : Cell → ℕ) : Type 0 where
   -- the page at the end, with the ledger of all calls, and the places where the parts of the output end
   pub page : Page
   pub middle : ℕ
   pub end : ℕ
   pub drawn : DrawsAll s lent 0 (blank seats) drawing middle page
   -- no other page comes of these calls, whatever they are said to have answered
-  pub alone : (lent' : Lent) (drawing' : List Drawn) (end' : ℕ) (B : Page) → drawing_calls drawing ≡ drawing_calls drawing' → DrawsAll s lent' 0 (blank seats) drawing' end' B → page ≡ B
+  pub alone : (lent' : Lent) (drawing' : List (Answered Drawing)) (end' : ℕ) (B : Page) → drawing_calls drawing ≡ drawing_calls drawing' → DrawsAll s lent' 0 (blank seats) drawing' end' B → page ≡ B
   pub viewed : Closing s lent middle page viewing end
   -- every cell in the span shows at the end what the ledger tells
   pub shows : (q : Cell) → Within s.span q → Shows s.operations page.ledger q (ink q)

@@ -9,8 +9,7 @@ use Rattle.history.specs.declared.calls.Drawing.{Drawing}
 use Rattle.history.specs.declared.calls.Drawing.TheVariants.{Dot, Line, Look as Looks}
 use Rattle.history.specs.declared.calls.Viewing.{Viewing}
 use Rattle.history.specs.declared.calls.Answer.{Answer}
-use Rattle.history.specs.declared.calls.Drawn.{Drawn}
-use Rattle.history.specs.declared.calls.Viewed.{Viewed}
+use Rattle.history.specs.declared.calls.Answered.{Answered}
 use Rattle.history.specs.Histories.{Lent, drawing_calls, Told}
 
 -- a dot within the span may give way to an image of it within the span, with the counterpart ink if the operation is odd
@@ -27,27 +26,27 @@ TwinCalls s [] (d ∷ ds) = ⊥
 TwinCalls s (c ∷ cs) [] = ⊥
 TwinCalls s (c ∷ cs) (d ∷ ds) = TwinCall s c d × TwinCalls s cs ds
 
-abbrev pub drawing_answers : List Drawn → List (Option Answer)
+abbrev pub drawing_answers : List (Answered Drawing) → List (Option Answer)
 drawing_answers = map (λ e. e.answer)
 
-abbrev pub viewing_calls : Option (List Viewed) → Option (List Viewing)
+abbrev pub viewing_calls : Option (List (Answered Viewing)) → Option (List Viewing)
 viewing_calls None = None
 viewing_calls (Some vs) = Some (map (λ e. e.call) vs)
 
-abbrev pub viewing_answers : Option (List Viewed) → Option (List (Option Answer))
+abbrev pub viewing_answers : Option (List (Answered Viewing)) → Option (List (Option Answer))
 viewing_answers None = None
 viewing_answers (Some vs) = Some (map (λ e. e.answer) vs)
 
 -- two histories that were lent the same palette and outputs of one length: the same answers, and from the same output the same bytes
-pub record Agree (lent : Lent) (drawing : List Drawn) (viewing : Option (List Viewed)) (lent' : Lent) (drawing' : List Drawn) (viewing' : Option (List Viewed)) : Type 0 where
+pub record Agree (lent : Lent) (drawing : List (Answered Drawing)) (viewing : Option (List (Answered Viewing))) (lent' : Lent) (drawing' : List (Answered Drawing)) (viewing' : Option (List (Answered Viewing))) : Type 0 where
   pub drawn : drawing_answers drawing ≡ drawing_answers drawing'
   pub viewed : viewing_answers viewing ≡ viewing_answers viewing'
   pub bytes : lent.before ≡ lent'.before → lent.after ≡ lent'.after
 
 -- every twin of the history that is told agrees with it
-abbrev pub TwinsAgree : Setting → ℕ → Lent → List Drawn → Option (List Viewed) → Type 0
+abbrev pub TwinsAgree : Setting → ℕ → Lent → List (Answered Drawing) → Option (List (Answered Viewing)) → Type 0
 TwinsAgree s seats lent drawing viewing =
-    (lent' : Lent) (drawing' : List Drawn) (viewing' : Option (List Viewed)) (ink' : Cell → ℕ)
+    (lent' : Lent) (drawing' : List (Answered Drawing)) (viewing' : Option (List (Answered Viewing))) (ink' : Cell → ℕ)
     → TwinCalls s (drawing_calls drawing) (drawing_calls drawing') → viewing_calls viewing ≡ viewing_calls viewing'
     → lent.palette ≡ lent'.palette → length lent.before ≡ length lent'.before
     → Told s seats lent' drawing' viewing' ink' → Agree lent drawing viewing lent' drawing' viewing'

@@ -1,6 +1,5 @@
 // The calls of a history and their answers, as data. What a sheet does not allow cannot be written.
 ghost use Rattle.std.specs.Prelude.{◌≡◌, None};
-ghost use Rattle.history.specs.Passed.{passed};
 
 use plane::cell::Cell;
 use plane::fold::FoldRefused;
@@ -49,41 +48,24 @@ pub enum Answer {
     Quoted(Quote),
 }
 
-// A call on an open sheet with its answer, once it has one.
+// A call with its answer, once it has one.
 #[derive(Clone, Copy)]
-pub struct Drawn {
-    pub call: Drawing,
+pub struct Answered<C> {
+    pub call: C,
     pub answer: Option<Answer>,
 }
 
-// A call on a closed sheet with its answer, once it has one.
-#[derive(Clone, Copy)]
-pub struct Viewed {
-    pub call: Viewing,
-    pub answer: Option<Answer>,
-}
+// A call on an open sheet with its answer.
+pub type Drawn = Answered<Drawing>;
 
-impl Drawn {
+// A call on a closed sheet with its answer.
+pub type Viewed = Answered<Viewing>;
+
+impl<C> Answered<C> {
     // A call that has no answer yet.
-    pub fn of(call: Drawing) -> Drawn
+    pub fn of(call: C) -> Answered<C>
         ensures { result ≡ record { call = call; answer = None } }
     {
-        Drawn { call, answer: None }
+        Answered { call, answer: None }
     }
-}
-
-impl Viewed {
-    // A call that has no answer yet.
-    pub fn of(call: Viewing) -> Viewed
-        ensures { result ≡ record { call = call; answer = None } }
-    {
-        Viewed { call, answer: None }
-    }
-}
-
-// The calls on the closed sheet of a history that does not close: there are none.
-pub fn left_open<'a>() -> Option<&'a mut [Viewed]>
-    ensures { passed result ≡ None }
-{
-    Option::None
 }

@@ -4,3 +4,4 @@
 pub mod calls;
 mod makes;
 pub mod replay;
+mod rooms;

@@ -7,7 +7,8 @@ ghost use Rattle.history.specs.Twins.{Agree, TwinCalls, TwinsAgree, viewing_call
 ghost use Rattle.history.specs.Passed.{passed, returned};
 
 use super::calls::{Drawn, Viewed};
-use super::makes::{draw, drawing_room, past, view, viewing_room};
+use super::makes::{draw, view};
+use super::rooms::past;
 use canvas::canvas::Canvas;
 use plane::symmetry::Symmetry;
 use sheet::sheet::OpenSheet;
@@ -28,11 +29,11 @@ pub fn replay<S: Symmetry, C: Canvas>(
 {
     let mut sheet = OpenSheet::open(canvas);
     let mut at = 0;
-    for i in 0..drawing.len() {
-        let call = drawing[i].call;
-        let answer = draw(&mut sheet, symmetry, canvas, palette, call, output, at);
-        drawing[i].answer = Some(answer);
-        at = past(output.len(), at, drawing_room(call));
+    for drawn in drawing.iter_mut() {
+        let end = past(output.len(), at, drawn.call.room());
+        let part = &mut output[at..end];
+        drawn.answer = Some(draw(&mut sheet, symmetry, canvas, palette, drawn.call, part));
+        at = end;
     }
     match viewing {
         None => {
@@ -40,11 +41,11 @@ pub fn replay<S: Symmetry, C: Canvas>(
         }
         Some(viewing) => {
             let closed = sheet.close(canvas);
-            for j in 0..viewing.len() {
-                let call = viewing[j].call;
-                let answer = view(&closed, symmetry, canvas, palette, call, output, at);
-                viewing[j].answer = Some(answer);
-                at = past(output.len(), at, viewing_room(call));
+            for viewed in viewing.iter_mut() {
+                let end = past(output.len(), at, viewed.call.room());
+                let part = &mut output[at..end];
+                viewed.answer = Some(view(&closed, symmetry, canvas, palette, viewed.call, part));
+                at = end;
             }
             closed.leave();
         }

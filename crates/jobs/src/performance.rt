@@ -3,7 +3,6 @@ use super::record::Record;
 use canvas::canvas::Canvas;
 use commands::memory::Memory;
 use dense::dense::DenseCanvas;
-use history::calls::left_open;
 use history::replay::replay;
 use pile::pile::Pile;
 use sparse::record::CellRecord;
@@ -33,7 +32,7 @@ fn play<C: Canvas>(
         let viewing = record.viewing.as_mut_slice();
         replay(symmetry, canvas, palette, drawing, Some(viewing), output);
     } else {
-        replay(symmetry, canvas, palette, drawing, left_open(), output);
+        replay(symmetry, canvas, palette, drawing, None, output);
     }
 }
 

@@ -5,7 +5,7 @@ use groups::tabled::Tabled;
 use plane::cell::Cell;
 use plane::fold::FoldRefused;
 use plane::symmetry::Symmetry;
-use sheet::sheet::{ClosedSheet, OpenSheet, Quote};
+use sheet::sheet::{ClosedSheet, OpenSheet, Quote, Sheet};
 use std::process::Abort;
 use std::test::Fail;
 

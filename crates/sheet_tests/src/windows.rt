@@ -5,7 +5,7 @@ use groups::tabled::Tabled;
 use layers::counterchange::Counterchange;
 use plane::cell::Cell;
 use plane::symmetry::Symmetry;
-use sheet::sheet::OpenSheet;
+use sheet::sheet::{OpenSheet, Sheet};
 use sparse::sparse::SparseCanvas;
 use std::process::Abort;
 use std::test::Fail;
