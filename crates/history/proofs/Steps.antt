@@ -59,7 +59,7 @@ window_long m b corner width height palette output =
 -- every call leaves its part as long as it was
 look_long : (m : Meaning) (b : Board) (palette : List ℕ) (look : Look) (bytes : List ℕ) → length (look_output m b palette look bytes) ≡ length bytes
 look_long m b palette (Show q) bytes = refl
-look_long m b palette (Windows w) bytes = window_long m b w.corner w.width w.height (take w.palette palette) bytes
+look_long m b palette (Windows w) bytes = window_long m b w.rectangle.corner w.rectangle.width w.rectangle.height (take w.palette palette) bytes
 
 pub draw_long : (m : Meaning) (b : Board) (palette : List ℕ) (call : Drawing) (bytes : List ℕ) → length (draw_output m b palette call bytes) ≡ length bytes
 draw_long m b palette (Dot p ink) bytes = refl
@@ -115,12 +115,12 @@ module _ (palette before : List ℕ) where
       look_seen L b follows (Windows w) fin long e =
           let bytes : List ℕ = part at w.output out in
           let inks : List ℕ = take w.palette palette in
-          let new : List ℕ = window_output m b w.corner w.width w.height inks bytes in
-          let answer = window_answer m w.corner w.width w.height inks bytes in
-          let p = patch at w.output new out (subst (λ k. at ≤ k) (sym so_far.long) so_far.near) (window_long m b w.corner w.width w.height inks bytes) in
+          let new : List ℕ = window_output m b w.rectangle.corner w.rectangle.width w.rectangle.height inks bytes in
+          let answer = window_answer m w.rectangle.corner w.rectangle.width w.rectangle.height inks bytes in
+          let p = patch at w.output new out (subst (λ k. at ≤ k) (sym so_far.long) so_far.near) (window_long m b w.rectangle.corner w.rectangle.width w.rectangle.height inks bytes) in
           let after : part at w.output fin ≡ new = part_front fin (placed out at new) (length before) at w.output long (p.long ∙ so_far.long) e ∙ p.here in
-          let told : Paints here L w.corner w.width w.height inks bytes new answer = painting m frame cl L b follows w.corner w.width w.height inks bytes in
-          (answer, subst₂ (λ (xs ys : List ℕ). Paints here L w.corner w.width w.height inks xs ys answer) (part_same w.output) (sym after) told, refl)
+          let told : Paints here L w.rectangle.corner w.rectangle.width w.rectangle.height inks bytes new answer = painting m frame cl L b follows w.rectangle.corner w.rectangle.width w.rectangle.height inks bytes in
+          (answer, subst₂ (λ (xs ys : List ℕ). Paints here L w.rectangle.corner w.rectangle.width w.rectangle.height inks xs ys answer) (part_same w.output) (sym after) told, refl)
 
       -- one call on an open sheet, from page A
       pub record Stepped (call : Drawing) (A : Page) (answer : Answer) (strokes : ℕ) (b : Board) (more : List ℕ) : Type 0 where

@@ -43,8 +43,8 @@ module _ (m : Meaning) (frame : Cell → Bool) (cl : Classes m) (lent lent' : Le
   seen_twin at L M twins (Show q) x y h k =
       (h.2 ∙ ap (λ (z : Result ℕ FoldRefused). Some (Shown z)) (shows_at_twin m cl frame L M twins q h.0 k.0 h.1 k.1) ∙ sym k.2, λ e. refl)
   seen_twin at L M twins (Windows w) x y h k =
-      let k' : Paints here M w.corner w.width w.height (take w.palette lent.palette) (part at w.output lent'.before) (part at w.output lent'.after) k.0 = subst (λ (c : List ℕ). Paints here M w.corner w.width w.height (take w.palette c) (part at w.output lent'.before) (part at w.output lent'.after) k.0) (sym palettes) k.1 in
-      let t = paints_twin m cl frame L M twins w.corner w.width w.height (take w.palette lent.palette) (part at w.output lent.before) (part at w.output lent'.before) (part at w.output lent.after) (part at w.output lent'.after) h.0 k.0 (part_long lent.before lent'.before at w.output lengths) h.1 k' in
+      let k' : Paints here M w.rectangle.corner w.rectangle.width w.rectangle.height (take w.palette lent.palette) (part at w.output lent'.before) (part at w.output lent'.after) k.0 = subst (λ (c : List ℕ). Paints here M w.rectangle.corner w.rectangle.width w.rectangle.height (take w.palette c) (part at w.output lent'.before) (part at w.output lent'.after) k.0) (sym palettes) k.1 in
+      let t = paints_twin m cl frame L M twins w.rectangle.corner w.rectangle.width w.rectangle.height (take w.palette lent.palette) (part at w.output lent.before) (part at w.output lent'.before) (part at w.output lent.after) (part at w.output lent'.after) h.0 k.0 (part_long lent.before lent'.before at w.output lengths) h.1 k' in
       (h.2 ∙ ap (λ (z : Result ℕ WindowRefused). Some (Windowed z)) t.0 ∙ sym k.2, λ e. t.1 (ap (part at w.output) e))
 
   -- a call and its twin, from twin pages

@@ -55,7 +55,7 @@ past long at size = min long (at + size)
 abbrev pub Seen : Setting → Lent → ℕ → Ledger → Look → Option Answer → Type 0
 Seen s lent at L (Show q) answer = (x : Result ℕ FoldRefused) × ShowsAt s L q x × (answer ≡ Some (Shown x))
 Seen s lent at L (Windows w) answer =
-    (x : Result ℕ WindowRefused) × Paints s L w.corner w.width w.height (take w.palette lent.palette) (part at w.output lent.before) (part at w.output lent.after) x × (answer ≡ Some (Windowed x))
+    (x : Result ℕ WindowRefused) × Paints s L w.rectangle.corner w.rectangle.width w.rectangle.height (take w.palette lent.palette) (part at w.output lent.before) (part at w.output lent.after) x × (answer ≡ Some (Windowed x))
 
 -- a call on an open sheet, from page A to page B
 abbrev pub Draws : Setting → Lent → ℕ → Page → Drawing → Option Answer → Page → Type 0

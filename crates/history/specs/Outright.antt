@@ -18,11 +18,11 @@ use Rattle.history.specs.declared.calls.Answer.TheVariants.{Stroked as StrokedSo
 
 abbrev pub look_answer : Meaning → Board → List ℕ → Look → List ℕ → Answer
 look_answer m b palette (Show q) bytes = Shown (shown m b q)
-look_answer m b palette (Windows w) bytes = Windowed (window_answer m w.corner w.width w.height (take w.palette palette) bytes)
+look_answer m b palette (Windows w) bytes = Windowed (window_answer m w.rectangle.corner w.rectangle.width w.rectangle.height (take w.palette palette) bytes)
 
 abbrev pub look_output : Meaning → Board → List ℕ → Look → List ℕ → List ℕ
 look_output m b palette (Show q) bytes = bytes
-look_output m b palette (Windows w) bytes = window_output m b w.corner w.width w.height (take w.palette palette) bytes
+look_output m b palette (Windows w) bytes = window_output m b w.rectangle.corner w.rectangle.width w.rectangle.height (take w.palette palette) bytes
 
 abbrev pub draw_answer : Meaning → ℕ → Board → List ℕ → Drawing → List ℕ → Answer
 draw_answer m strokes b palette (Dot p ink) bytes = StrokedSo (stroke_answer (dotted m strokes b p (marked ink)))

@@ -3,16 +3,15 @@ ghost use Rattle.std.specs.Prelude.{◌≡◌, None};
 
 use plane::cell::Cell;
 use plane::fold::FoldRefused;
+use plane::rectangle::Rectangle;
 use sheet::refusal::StrokeStopped;
 use sheet::sheet::Quote;
 use views::refusal::WindowRefused;
 
-// A window: its corner and sides, how many bytes of the lent palette it is given, from the first on, and how many of the lent output, after those of the windows before it.
+// A window: its rectangle, how many bytes of the lent palette it is given, from the first on, and how many of the lent output, after those of the windows before it.
 #[derive(Clone, Copy)]
 pub struct Window {
-    pub corner: Cell,
-    pub width: i64,
-    pub height: i64,
+    pub rectangle: Rectangle,
     pub palette: usize,
     pub output: usize,
 }

@@ -23,15 +23,7 @@ fn look<T: Sheet, S: Symmetry, C: Canvas>(
         Look::Show(cell) => Answer::Shown(sheet.show(symmetry, canvas, cell)),
         Look::Window(window) => {
             let inks = &palette[..window.palette.min(palette.len())];
-            Answer::Windowed(sheet.window(
-                symmetry,
-                canvas,
-                window.corner,
-                window.width,
-                window.height,
-                inks,
-                part,
-            ))
+            Answer::Windowed(sheet.window(symmetry, canvas, window.rectangle, inks, part))
         }
     }
 }

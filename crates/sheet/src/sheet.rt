@@ -7,6 +7,7 @@ ghost use Rattle.views.specs.Windows.{window_answer, window_output};
 use canvas::canvas::Canvas;
 use plane::cell::Cell;
 use plane::fold::FoldRefused;
+use plane::rectangle::Rectangle;
 use plane::symmetry::Symmetry;
 use views::refusal::WindowRefused;
 use views::{show, window};
@@ -27,21 +28,19 @@ pub trait Sheet {
         show::show(symmetry, canvas, at)
     }
 
-    // Writes a binary PPM picture of the cells from a corner on, and answers how many bytes it has.
+    // Writes a binary PPM picture of the cells of a rectangle, and answers how many bytes it has.
     fn window<S: Symmetry, C: Canvas>(
         &self,
         symmetry: &S,
         canvas: &C,
-        corner: Cell,
-        width: i64,
-        height: i64,
+        rectangle: Rectangle,
         palette: &[u8],
         output: &mut [u8],
     ) -> Result<usize, WindowRefused>
-        ensures answer { result ≡ window_answer (S.Symmetry.meaning symmetry.now) corner width height palette.now output.old }
-        ensures output { output.new ≡ window_output (S.Symmetry.meaning symmetry.now) (C.Canvas.board canvas.now) corner width height palette.now output.old }
+        ensures answer { result ≡ window_answer (S.Symmetry.meaning symmetry.now) rectangle.corner rectangle.width rectangle.height palette.now output.old }
+        ensures output { output.new ≡ window_output (S.Symmetry.meaning symmetry.now) (C.Canvas.board canvas.now) rectangle.corner rectangle.width rectangle.height palette.now output.old }
     {
-        window::window(symmetry, canvas, corner, width, height, palette, output)
+        window::window(symmetry, canvas, rectangle, palette, output)
     }
 }
 

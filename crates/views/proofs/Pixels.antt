@@ -1,5 +1,6 @@
 -- The bytes of cells, three for each.
-use Rattle.std.proofs.Common.{◌≡◌, ℕ, ◌+◌, ◌*◌, ◌≤◌, List, [], ◌∷◌, ◌++◌, length, sym, refl, ap, ◌∙◌, ap₂, arith, length-append}
+use Rattle.std.proofs.Common.{◌≡◌, ℕ, ◌+◌, ◌-◌, ◌*◌, ◌≤◌, List, [], ◌∷◌, ◌++◌, length, sym, refl, ap, ◌∙◌, ap₂, arith, length-append}
+use borrow.Rule.Slice.PartMut.{put_mid}
 use Rattle.plane.specs.declared.cell.Cell.{Cell}
 use Rattle.plane.specs.Meaning.{Meaning}
 use Rattle.canvas.specs.Board.{Board}
@@ -7,11 +8,7 @@ use Rattle.views.specs.Shows.{shown_ink}
 use Rattle.plane.specs.Rectangles.{window_cells}
 use Rattle.views.specs.Windows.{colour, header, picture, picture_size, pixels, placed}
 use Rattle.plane.proofs.Rectangles.{window_length}
-use Rattle.views.proofs.Placing.{placed-then}
-
-pub pixels-append : (m : Meaning) (b : Board) (palette : List ℕ) (ps qs : List Cell) → pixels m b palette (ps ++ qs) ≡ pixels m b palette ps ++ pixels m b palette qs
-pixels-append m b palette [] qs = refl
-pixels-append m b palette (p ∷ ps) qs = ap (λ ys. colour palette (shown_ink m b p) ++ ys) (pixels-append m b palette ps qs)
+use Rattle.views.proofs.Placing.{mid_placed, placed-then}
 
 pub pixels-length : (m : Meaning) (b : Board) (palette : List ℕ) (ps : List Cell) → length (pixels m b palette ps) ≡ 3 * length ps
 pixels-length m b palette [] = refl
@@ -23,15 +20,13 @@ picture-length m b palette corner width height =
     length-append (header width height) (pixels m b palette (window_cells corner width height))
     ∙ ap (λ n. length (header width height) + n) (pixels-length m b palette (window_cells corner width height) ∙ ap (λ n. 3 * n) (window_length corner width height))
 
--- more pixels, right after those of some cells
-pub pixels_more : (m : Meaning) (b : Board) (palette xs : List ℕ) (at : ℕ) (ps qs rs : List Cell) (out more bytes : List ℕ) (n : ℕ) → out ≡ placed xs at (pixels m b palette ps) → n ≡ at + 3 * length ps → at + 3 * length ps ≤ length xs → more ≡ placed out n bytes → bytes ≡ pixels m b palette qs → rs ≡ ps ++ qs → more ≡ placed xs at (pixels m b palette rs)
-pixels_more m b palette xs at ps qs rs out more bytes n e i room f g h =
-    let us : List ℕ = pixels m b palette ps in
-    let vs : List ℕ = pixels m b palette qs in
-    let l : length us ≡ 3 * length ps = pixels-length m b palette ps in
-    let from : n ≡ at + length us = i ∙ ap (λ k. at + k) (sym l) in
-    let fits : at + length us ≤ length xs = omega arith in
-    f
-    ∙ ap₂ (λ ys zs. placed ys n zs) e g
-    ∙ placed-then xs us vs at n from fits
-    ∙ ap (placed xs at) (sym (pixels-append m b palette ps qs) ∙ ap (pixels m b palette) (sym h))
+-- one pixel is written, and those of the other cells are left
+pub pixels_left : (m : Meaning) (b : Board) (palette out px last : List ℕ) (at : ℕ) (p : Cell) (left rest : List Cell) → left ≡ p ∷ rest → placed out at (pixels m b palette left) ≡ last → at + 3 * length left ≤ length out → px ≡ colour palette (shown_ink m b p) → placed (put_mid at (at + 3 - at) out px) (at + 3) (pixels m b palette rest) ≡ last
+pixels_left m b palette out px last at p left rest is finish room e =
+    let first : List ℕ = colour palette (shown_ink m b p) in
+    let later : List ℕ = pixels m b palette rest in
+    let fits : at + length first ≤ length out = omega (arith, ap length is) in
+    ap (λ ys. placed ys (at + 3) later) (mid_placed out px first at (at + 3 - at) e (omega arith))
+    ∙ placed-then out first later at (at + 3) (omega arith) fits
+    ∙ ap (λ ps. placed out at (pixels m b palette ps)) (sym is)
+    ∙ finish

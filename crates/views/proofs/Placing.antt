@@ -1,7 +1,8 @@
 -- Bytes put in the place of others, one part after another.
-use Rattle.std.proofs.Common.{◌≡◌, ℕ, ◌+◌, ◌≤◌, List, [], ◌∷◌, ◌++◌, length, take, drop, sym, ap, ◌∙◌, subst, ap₂, append_assoc, add-zero, arith, length-append, take-append-drop, length-take, drop-drop}
+use Rattle.std.proofs.Common.{◌≡◌, ℕ, ◌+◌, ◌-◌, ◌≤◌, List, [], ◌∷◌, ◌++◌, length, take, drop, sym, ap, ◌∙◌, subst, ap₂, append_assoc, add-zero, arith, length-append, length-drop, take-append-drop, length-take, drop-drop}
 use lib.Seq.{take-append_seam, drop-append-add}
 use borrow.Rule.Slice.PartMut.{put_mid}
+use Rattle.std.proofs.lemmas.List.{append-nil, drop_all, take_all}
 use Rattle.views.specs.Windows.{placed, written_over}
 
 -- two parts, the second right after the first, are one
@@ -48,9 +49,20 @@ written_more xs us vs out more n k w e f =
       next = f ∙ ap (λ i. i + length vs) w.next ∙ m;
     }
 
--- the first part
-pub written_first : (xs vs out : List ℕ) (k : ℕ) → out ≡ placed xs 0 vs → k ≡ 0 + length vs → Written xs vs out k
-written_first xs vs out k e f = record { output = e ∙ placed_first xs vs; next = f ∙ (let z : 0 + length vs ≡ length vs = omega arith in z) }
+-- what a write over the rest of a slice leaves
+rest_placed : (xs us ys : List ℕ) (a : ℕ) → a ≤ length xs → ys ≡ written_over us (take (length xs - a) (drop a xs)) → put_mid a (length xs - a) xs ys ≡ placed xs a us
+rest_placed xs us ys a h e =
+    let k : ℕ = length xs - a in
+    let all : take k (drop a xs) ≡ drop a xs = take_all k (drop a xs) (omega (arith, length-drop a xs)) in
+    let none : drop k (drop a xs) ≡ [] = drop_all k (drop a xs) (omega (arith, length-drop a xs)) in
+    ap₂ (λ zs ws. take a xs ++ (zs ++ ws)) (e ∙ ap (written_over us) all) none
+    ∙ ap (λ zs. take a xs ++ zs) (append-nil (us ++ drop (length us) (drop a xs)) ∙ ap (λ zs. us ++ zs) (drop-drop (length us) a xs))
+
+-- the next part, written over the rest
+pub written_on : (xs us vs out ys : List ℕ) (n k : ℕ) → Written xs us out n → ys ≡ written_over vs (take (length out - n) (drop n out)) → k ≡ length vs → Written xs (us ++ vs) (put_mid n (length out - n) out ys) (n + k)
+written_on xs us vs out ys n k w e f =
+    let h : n ≤ length out = omega (arith, w.next, ap length w.output, length-append us (drop (length us) xs)) in
+    written_more xs us vs out (put_mid n (length out - n) out ys) n (n + k) w (rest_placed out vs ys n h e) (ap (λ i. n + i) f)
 
 -- the parts of a header, joined
 pub joined : (d e t : List ℕ) (gap : ℕ) → ((d ++ (gap ∷ [])) ++ e) ++ t ≡ d ++ (gap ∷ (e ++ t))

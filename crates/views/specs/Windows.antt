@@ -43,10 +43,6 @@ picture m b palette corner width height = header width height ++ pixels m b pale
 abbrev pub picture_size : ℕ → ℕ → ℕ
 picture_size width height = length (header width height) + 3 * (width * height)
 
--- a side as a number, unless it is wrong
-abbrev pub side_of : ℤ → Result ℕ WindowRefused
-side_of n = cond (wrong_side n) (Err Side) (Ok (unsigned_abs n))
-
 -- why a window is refused, if it is; of the palette and the output only the lengths count
 abbrev pub window_refusal : ℕ → Cell → ℤ → ℤ → ℕ → ℕ → Option WindowRefused
 window_refusal span corner width height palette output =

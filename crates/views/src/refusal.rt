@@ -1,6 +1,8 @@
 // Why a window is refused.
 ghost use Rattle.std.specs.Prelude.{◌≡◌};
-ghost use Rattle.views.specs.Refusals.{window_number};
+ghost use Rattle.views.specs.Refusals.{by_rectangle, window_number};
+
+use plane::rectangle::RectangleRefused;
 
 #[derive(Clone, Copy, PartialEq, Eq, Debug)]
 pub enum WindowRefused {
@@ -12,6 +14,18 @@ pub enum WindowRefused {
     Palette,
     // The output is too short.
     Output,
+}
+
+// A rectangle that is no window is refused as one.
+impl From<RectangleRefused> for WindowRefused {
+    ghost from_gives = { λ why r. r ≡ by_rectangle why };
+
+    fn from(value: RectangleRefused) -> WindowRefused {
+        match value {
+            RectangleRefused::Side => WindowRefused::Side,
+            RectangleRefused::OffSpan => WindowRefused::OffSpan,
+        }
+    }
 }
 
 impl WindowRefused {

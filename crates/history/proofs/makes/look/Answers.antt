@@ -1,5 +1,4 @@
-use Rattle.std.proofs.Common.{◌≡◌, ℤ, take, sym, ap, ◌∙◌, ap₂, w64, SFits, rules}
-use Rattle.std.proofs.lemmas.Int.{to_z-of_z}
+use Rattle.std.proofs.Common.{◌≡◌, take, sym, ap, ◌∙◌}
 use Rattle.views.specs.Windows.{window_answer, window_output}
 use Rattle.history.specs.declared.calls.Answer.TheVariants.{Windowed}
 use Rattle.history.specs.Outright.{look_answer, look_output}
@@ -13,12 +12,9 @@ returns-in-Window g c =
     let w = c.in-Window.window in
     let palette = c.args.palette.now in
     let bytes = c.args.part.now in
-    let fw : SFits w64 w.width = search rules in
-    let fh : SFits w64 w.height = search rules in
     let cut : take c.min.result palette ≡ take w.palette palette = take_some palette w.palette c.min.result c.min.ensures in
-    let wide = to_z-of_z w64 w.width fw in
-    let high = to_z-of_z w64 w.height fh in
+    let r = w.rectangle in
     record {
-      answer = ap Windowed (c.window.ensures.answer ∙ ap₂ (λ (x y : ℤ). window_answer m w.corner x y (take c.min.result palette) bytes) wide high ∙ ap (λ inks. window_answer m w.corner w.width w.height inks bytes) cut) ∙ sym (ap (λ l. look_answer m b palette l bytes) c.in-Window.is);
-      output = c.window.ensures.output ∙ ap₂ (λ (x y : ℤ). window_output m b w.corner x y (take c.min.result palette) bytes) wide high ∙ ap (λ inks. window_output m b w.corner w.width w.height inks bytes) cut ∙ sym (ap (λ l. look_output m b palette l bytes) c.in-Window.is);
+      answer = ap Windowed (c.window.ensures.answer ∙ ap (λ inks. window_answer m r.corner r.width r.height inks bytes) cut) ∙ sym (ap (λ l. look_answer m b palette l bytes) c.in-Window.is);
+      output = c.window.ensures.output ∙ ap (λ inks. window_output m b r.corner r.width r.height inks bytes) cut ∙ sym (ap (λ l. look_output m b palette l bytes) c.in-Window.is);
     }

@@ -7,4 +7,4 @@ colour-requires g c =
     let m = g.S.Symmetry.meaning c.args.symmetry.now in
     let b = g.C.Canvas.board c.args.canvas.now in
     let e = shown_ok m b c.args.at c.in-Ok.ink c.in-Ok.ensures in
-    record { palette = c.requires.palette; ink = subst (λ n. n ≤ 15) (sym e) (shown-small m b c.args.at (g.C.Canvas.laws c.args.canvas.now)) }
+    subst (λ n. n ≤ 15) (sym e) (shown-small m b c.args.at (g.C.Canvas.laws c.args.canvas.now))
