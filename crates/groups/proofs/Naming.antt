@@ -1,26 +1,49 @@
 -- The search for a symbol.
-use Rattle.std.proofs.Common.{◌≡◌, ℕ, zero, suc, ◌+◌, ◌-◌, ◌<◌, ◌≤◌, Bool, true, false, cond, T, eqb, List, sym, refl, ap, ◌∙◌, add-one, arith, eqb→eq}
+use Rattle.std.proofs.Common.{◌≡◌, ℕ, zero, suc, ◌+◌, ◌<◌, ◌≤◌, Bool, true, false, cond, T, eqb, List, [], ◌∷◌, map, Some, None, Option, Bor, MatchOption, IfSome, sym, refl, ap, ◌∙◌, add-one, arith, eqb→eq}
+use Rattle.std.specs.Prelude.{position}
+use Rattle.std.specs.List.{position_from}
 use Rattle.std.specs.Str.{bytes_eq}
+use Rattle.std.proofs.lemmas.Iterator.Adapters.{position_from-zero}
 use Rattle.std.proofs.lemmas.Slice.Eq.{bytes_eq-Decides}
+use Rattle.groups.specs.Rules.{known}
 use Rattle.groups.specs.Symbols.{symbols, symbol_of, named_from, number_named, SymbolsTell}
 use Rattle.groups.specs.Members.{every_below, below_in}
 use Rattle.groups.proofs.Placing.{known_low, known_high}
 
-named_step : (k : ℕ) (s : List ℕ) → k < 18 → named_from (18 - k) k s ≡ cond (bytes_eq (symbol_of k) s) k (named_from (18 - (k + 1)) (k + 1) s)
-named_step k s h =
-    let e : 18 - k ≡ suc (18 - (k + 1)) = omega arith in
-    ap (λ (m : ℕ). named_from m k s) e ∙ ap (λ (m : ℕ). cond (bytes_eq (symbol_of k) s) k (named_from (18 - (k + 1)) m s)) (sym (add-one k))
+-- ---- the place of a symbol in the list
+-- the number, counted from k, of the first symbol that is the text, and 0 where none is
+abbrev counted : List (List ℕ) → ℕ → List ℕ → ℕ
+counted [] k s = 0
+counted (t ∷ ts) k s = cond (bytes_eq t s) k (counted ts (suc k) s)
 
-module _ (k : ℕ) (s : List ℕ) (X : ℕ) (h : k < 18) (inv : named_from (18 - k) k s ≡ X) where
-  pub named_here : symbol_of k ≡ s → k ≡ X
-  named_here e = sym (ap (λ (b : Bool). cond b k (named_from (18 - (k + 1)) (k + 1) s)) ((bytes_eq-Decides (symbol_of k) s).1 e)) ∙ sym (named_step k s h) ∙ inv
+all_counted : (s : List ℕ) → counted symbols 1 s ≡ number_named s
+unfolding number_named symbol_of symbols
+all_counted s = refl
 
-  pub named_later : (symbol_of k ≡ s → ⊥) → named_from (18 - (k + 1)) (k + 1) s ≡ X
-  named_later ne = sym (ap (λ (b : Bool). cond b k (named_from (18 - (k + 1)) (k + 1) s)) (differ (bytes_eq (symbol_of k) s) refl)) ∙ sym (named_step k s h) ∙ inv
-    where
-      differ : (b : Bool) → bytes_eq (symbol_of k) s ≡ b → bytes_eq (symbol_of k) s ≡ false
-      differ true e = absurd (ne ((bytes_eq-Decides (symbol_of k) s).0 e))
-      differ false e = e
+abbrev number_at : Option ℕ → ℕ
+number_at None = 0
+number_at (Some i) = suc i
+
+counted_is : (ts : List (Bor (List ℕ))) (k : ℕ) (s : List ℕ) → counted (map (λ t. t.now) ts) (suc k) s ≡ number_at (position_from (λ t. bytes_eq t.now s) k ts)
+counted_is [] k s = refl
+counted_is (t ∷ ts) k s = go (bytes_eq t.now s) (counted_is ts (suc k) s ∙ ap (λ n. number_at (position_from (λ t. bytes_eq t.now s) n ts)) (sym (add-one k)))
+  where
+    go : (b : Bool) → counted (map (λ t. t.now) ts) (suc (suc k)) s ≡ number_at (position_from (λ t. bytes_eq t.now s) (k + 1) ts) → cond b (suc k) (counted (map (λ t. t.now) ts) (suc (suc k)) s) ≡ number_at (cond b (Some k) (position_from (λ t. bytes_eq t.now s) (k + 1) ts))
+    go true e = refl
+    go false e = e
+
+known_next : (i : ℕ) → i < 17 → known (i + 1) ≡ true
+known_next i h = grind arith
+
+-- what the search for a symbol finds
+pub named : (us ts : List (Bor (List ℕ))) (s : List ℕ) (r : Option ℕ) (n : ℕ) → us ≡ ts → r ≡ position (λ t. bytes_eq t.now s) ts → IfSome r (λ i. i < n) → n ≡ 17 → map (λ t. t.now) ts ≡ symbols
+    → MatchOption r (number_named s ≡ 0) (λ i. (i + 1 ≡ number_named s) × (known (i + 1) ≡ true))
+named us ts s r n _ e b l all =
+    go r (sym (all_counted s) ∙ ap (λ (us : List (List ℕ)). counted us 1 s) (sym all) ∙ counted_is ts 0 s ∙ ap number_at (sym (e ∙ position_from-zero (λ t. bytes_eq t.now s) ts))) b
+  where
+    go : (r : Option ℕ) → number_named s ≡ number_at r → IfSome r (λ i. i < n) → MatchOption r (number_named s ≡ 0) (λ i. (i + 1 ≡ number_named s) × (known (i + 1) ≡ true))
+    go None e b = e
+    go (Some i) e b = (add-one i ∙ sym e, known_next i (omega (arith, b, l)))
 
 -- ---- symbols and numbers agree
 told_test : ℕ → Bool

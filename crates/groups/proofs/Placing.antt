@@ -1,9 +1,10 @@
 -- Where the rows of a group stand, and how large their numbers are: tests of the whole table.
-use Rattle.std.proofs.Common.{◌≡◌, ℕ, zero, suc, ◌≤◌, Bool, true, ◌&&◌, T, leb, List, [], ◌∷◌, get_or, ℤ, pos, nat_abs, arith, leb→le, w8, w64, to_z, of_z}
-use Rattle.std.proofs.lemmas.Int.{ints}
-use Rattle.groups.specs.Table.{numbers, starts, first_row, end_row}
+use Rattle.std.proofs.Common.{◌≡◌, ℕ, zero, suc, ◌+◌, ◌-◌, ◌≤◌, Bool, true, ◌&&◌, T, leb, ◌∷◌, map, take, drop, sym, refl, ap, ◌∙◌, ap₂, arith, leb→le}
+use Rattle.std.proofs.lemmas.List.{take-map, drop-map}
+use Rattle.std.specs.Simd.{first_chunks}
+use Rattle.groups.specs.Table.{numbers, starts, row, rows, rows_from, first_row, end_row}
+use Rattle.groups.specs.Positions.{position_of}
 use Rattle.groups.specs.Rules.{known}
-use Rattle.groups.specs.Lists.{every}
 use Rattle.groups.specs.Members.{both_left, both_right, true_T, every_below, below_in}
 
 abbrev bounds_test : ℕ → Bool
@@ -30,19 +31,27 @@ bounds_of (suc k) l h =
 pub row_bounds : (n : ℕ) → known n ≡ true → (first_row n ≤ end_row n) × (end_row n ≤ 84)
 row_bounds n e = bounds_of n (known_low n e) (known_high n e)
 
--- every number of the table, read at any place
-small_in : (zs : List ℤ) → T (every (λ z. leb (nat_abs z) 1) zs) → (i : ℕ) → nat_abs (get_or zs i (pos 0)) ≤ 1
-small_in [] t i = leb→le 0 1 tt
-small_in (z ∷ zs) t zero = leb→le (nat_abs z) 1 (both_left (leb (nat_abs z) 1) (every (λ z. leb (nat_abs z) 1) zs) t)
-small_in (z ∷ zs) t (suc i) = small_in zs (both_right (leb (nat_abs z) 1) (every (λ z. leb (nat_abs z) 1) zs) t) i
+-- ---- the rows of a group, as a part of the whole table
+drop_rows : (j n k i m : ℕ) → i ≡ k + j → m ≡ n - j → drop j (rows_from n k) ≡ rows_from m i
+drop_rows zero n k i m a b = let ea : k ≡ i = omega arith in let eb : n ≡ m = omega arith in ap₂ rows_from eb ea
+drop_rows (suc j) zero k i m a b = let e : 0 ≡ m = omega arith in ap (λ c. rows_from c i) e
+drop_rows (suc j) (suc n) k i m a b = drop_rows j n (suc k) i m (omega arith) (omega arith)
 
-small_table : T (every (λ z. leb (nat_abs z) 1) numbers)
-unfolding numbers
-small_table = tt
+take_rows : (m j k : ℕ) → m ≤ j → take m (rows_from j k) ≡ rows_from m k
+take_rows zero j k h = refl
+take_rows (suc m) zero k h = absurd (omega arith)
+take_rows (suc m) (suc j) k h = ap (λ rs. row k ∷ rs) (take_rows m j (suc k) (omega arith))
 
-pub small_number : (i : ℕ) → nat_abs (get_or numbers i (pos 0)) ≤ 1
-small_number i = small_in numbers small_table i
+whole_table : map position_of (first_chunks 6 84 numbers) ≡ rows_from 84 0
+unfolding numbers row
+whole_table = refl
 
--- a number of the table, widened
-pub cast_small : (z : ℤ) → nat_abs z ≤ 1 → to_z w64 (of_z w64 (to_z w8 (of_z w8 z))) ≡ z
-cast_small z h = omega (arith, ints)
+pub rows_of : (n : ℕ) → known n ≡ true → map position_of (take (end_row n - first_row n) (drop (first_row n) (first_chunks 6 84 numbers))) ≡ rows n
+unfolding rows
+rows_of n e =
+    let b = row_bounds n e in
+    let f = first_row n in
+    let m = end_row n - f in
+    sym (take-map position_of m (drop f (first_chunks 6 84 numbers)))
+    ∙ ap (take m) (sym (drop-map position_of f (first_chunks 6 84 numbers)) ∙ ap (drop f) whole_table ∙ drop_rows f 84 0 f (84 - f) (omega arith) refl)
+    ∙ take_rows m (84 - f) f (omega (arith, b.1))

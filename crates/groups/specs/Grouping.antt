@@ -3,6 +3,8 @@ use Rattle.std.specs.Prelude.{◌≡◌, ℕ, ◌/◌, ◌%◌, ◌≤◌, Bool,
 use Rattle.std.proofs.Common.{sym, ap, ap₂, ◌∙◌, subst, arith, leb→le, eqb→eq}
 use Rattle.std.proofs.Math.IntN.{+ℤ_comm}
 use Rattle.std.proofs.lemmas.Int.{ints}
+use Rattle.std.proofs.lemmas.Bool.Decides.{Decides-int_eq}
+use Rattle.std.specs.Ordering.{int_eq}
 use borrow.Author.Tests.{clash}
 use Rattle.ints.proofs.Ring.{var, lit, ◌⊕◌, ◌⊖◌, ◌⊗◌, ring_by, hyp}
 use Rattle.plane.specs.Operation.{Operation, compose, identity, translation, turned, Unimodular}
@@ -11,8 +13,6 @@ use Rattle.plane.proofs.Algebra.{same_operation}
 use Rattle.groups.specs.declared.position.Position.{Position}
 use Rattle.groups.specs.Lists.{In, some}
 use Rattle.groups.specs.Table.{rows, unit, Product, Closed}
-use Rattle.plane.specs.Cells.{eq_z}
-use Rattle.plane.proofs.Order.{eq_z_is}
 use Rattle.groups.specs.Rules.{shifts_x, shifts_y, needs, period, allowed}
 use Rattle.groups.specs.Positions.{operation}
 use Rattle.groups.specs.Tabled.{Operates}
@@ -63,9 +63,9 @@ needed true b t u = t
 needed false b t u = absurd u
 
 -- a shift by half periods, twice, is one by periods: there is none, or the period is even
-doubled : (s : ℤ) (p : ℕ) (b : Bool) → eq_z s (pos 0) ≡ b → (T (not b) → T (p % 2 == 0)) → s *ℤ pos (p / 2) +ℤ s *ℤ pos (p / 2) ≡ s *ℤ pos p
+doubled : (s : ℤ) (p : ℕ) (b : Bool) → int_eq s (pos 0) ≡ b → (T (not b) → T (p % 2 == 0)) → s *ℤ pos (p / 2) +ℤ s *ℤ pos (p / 2) ≡ s *ℤ pos p
 doubled s p true e h =
-    let z = eq_z_is s (pos 0) (true_T (eq_z s (pos 0)) e) in
+    let z = (Decides-int_eq s (pos 0)).0 e in
     ring_by (s ∷ pos (p / 2) ∷ pos p ∷ []) (hyp (var 1 ⊕ var 1 ⊖ var 2) (var 0) (lit (pos 0)) z ∷ []) (var 0 ⊗ var 1 ⊕ var 0 ⊗ var 1) (var 0 ⊗ var 2) tt
 doubled s p false e h =
     let m = eqb→eq (p % 2) 0 (h tt) in
@@ -82,8 +82,8 @@ crossed n p q z t h = go (nat_le 10 n) refl t
 
 pub fit : (n p q : ℕ) → Closed n (rows n) → Rules n p q → (r : Position) → In r (rows n) → Fit p q r
 fit n p q cl ru r i = record {
-  x = doubled r.s p (eq_z r.s (pos 0)) refl (λ t. needed (some shifts_x (rows n)) (p % 2 == 0) ru.across (in_some shifts_x (rows n) r i t));
-  y = doubled r.t q (eq_z r.t (pos 0)) refl (λ t. needed (some shifts_y (rows n)) (q % 2 == 0) ru.down (in_some shifts_y (rows n) r i t));
+  x = doubled r.s p (int_eq r.s (pos 0)) refl (λ t. needed (some shifts_x (rows n)) (p % 2 == 0) ru.across (in_some shifts_x (rows n) r i t));
+  y = doubled r.t q (int_eq r.t (pos 0)) refl (λ t. needed (some shifts_y (rows n)) (q % 2 == 0) ru.down (in_some shifts_y (rows n) r i t));
   b = crossed n p q r.b ru.square (λ h. (cl.upright r i h).0);
   c = sym (crossed n p q r.c ru.square (λ h. (cl.upright r i h).1));
 }

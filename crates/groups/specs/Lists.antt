@@ -1,5 +1,6 @@
 -- Lists: what a member is, and whether some or every member passes a test.
-use Rattle.std.specs.Prelude.{◌≡◌, Bool, true, false, ◌&&◌, ◌||◌, ◌⊎◌, List, [], ◌∷◌}
+use Rattle.std.specs.Prelude.{◌≡◌, Bool, ◌⊎◌, List, [], ◌∷◌}
+use Rattle.std.specs.List.{list_any, list_all}
 
 module _ {A : Type 0} where
   abbrev pub In : A → List A → Type 0
@@ -7,9 +8,7 @@ module _ {A : Type 0} where
   In a (x ∷ xs) = (a ≡ x) ⊎ In a xs
 
   abbrev pub some : (A → Bool) → List A → Bool
-  some f [] = false
-  some f (x ∷ xs) = f x || some f xs
+  some = list_any
 
   abbrev pub every : (A → Bool) → List A → Bool
-  every f [] = true
-  every f (x ∷ xs) = f x && every f xs
+  every = list_all

@@ -1,16 +1,18 @@
--- Single positions: their size, and the operation that one stands for at given periods.
-use Rattle.std.specs.Prelude.{ℕ, ◌/◌, ◌≤◌, Bool, false, pos, ◌-ℤ◌, ◌*ℤ◌, unsigned_abs}
+-- Single positions: their numbers, and the operation that one stands for at given periods.
+use Rattle.std.specs.Prelude.{ℕ, ◌/◌, Bool, false, List, ℤ, pos, ◌-ℤ◌, ◌*ℤ◌, slice_index_or}
 use Rattle.plane.specs.Operation.{Operation, negative}
 use Rattle.groups.specs.declared.position.Position.{Position}
 
--- the numbers of a position are at most 1 in size
-pub record Small (r : Position) : Type 0 where
-  pub a : unsigned_abs r.a ≤ 1
-  pub b : unsigned_abs r.b ≤ 1
-  pub c : unsigned_abs r.c ≤ 1
-  pub d : unsigned_abs r.d ≤ 1
-  pub s : unsigned_abs r.s ≤ 1
-  pub t : unsigned_abs r.t ≤ 1
+-- the position with the numbers a b c d s t
+abbrev pub position_of : List ℤ → Position
+position_of row = record {
+  a = slice_index_or row 0 (pos 0);
+  b = slice_index_or row 1 (pos 0);
+  c = slice_index_or row 2 (pos 0);
+  d = slice_index_or row 3 (pos 0);
+  s = slice_index_or row 4 (pos 0);
+  t = slice_index_or row 5 (pos 0);
+}
 
 -- the position at the periods p and q: a shift of a half is p/2 in x and q/2 in y
 abbrev pub operation : ℕ → ℕ → Position → Operation

@@ -1,6 +1,6 @@
 -- The rules for a group's number and periods.
 use Rattle.std.specs.Prelude.{ℕ, ◌%◌, Bool, not, ◌&&◌, ◌||◌, ℤ, pos, negsuc, ◌==◌, nat_le}
-use Rattle.plane.specs.Cells.{eq_z}
+use Rattle.std.specs.Ordering.{int_eq}
 use Rattle.groups.specs.declared.position.Position.{Position}
 use Rattle.groups.specs.Lists.{some}
 use Rattle.groups.specs.Table.{rows}
@@ -21,10 +21,10 @@ abbrev pub period : ℕ → Bool
 period p = from_one_to 128 p
 
 abbrev pub shifts_x : Position → Bool
-shifts_x r = not (eq_z r.s (pos 0))
+shifts_x r = not (int_eq r.s (pos 0))
 
 abbrev pub shifts_y : Position → Bool
-shifts_y r = not (eq_z r.t (pos 0))
+shifts_y r = not (int_eq r.t (pos 0))
 
 -- where the condition holds, so must the other
 abbrev pub needs : Bool → Bool → Bool

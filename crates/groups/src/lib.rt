@@ -1,7 +1,6 @@
 // The seventeen plane groups at given periods, as symmetries.
 #![tactic(auto)]
 
-mod homes;
 pub mod position;
 pub mod rules;
 mod symbols;

@@ -5,7 +5,8 @@ ghost use Rattle.groups.specs.Refusals.{group_number};
 ghost use Rattle.groups.specs.Rules.{allowed, from_one_to, known, natural, period, shifts_x, shifts_y};
 ghost use Rattle.groups.specs.Table.{rows};
 
-use super::table::{end_row, first_row, position};
+use super::position::Position;
+use super::table::rows;
 
 // Why a tabled group is refused.
 #[derive(Clone, Copy, PartialEq, Eq, Debug)]
@@ -38,32 +39,17 @@ pub(crate) fn from_one_to(top: u32, z: i64) -> Option<u32>
     Some(z as u32)
 }
 
-// Whether a position of the group shifts x.
-fn has_shift_x(number: u32) -> bool
+// Whether a position of the group shifts x, and whether one shifts y.
+fn shifts(number: u32) -> (bool, bool)
     requires { known number ≡ true }
-    ensures { result ≡ some shifts_x (rows number) }
+    ensures x { result.0 ≡ some shifts_x (rows number) }
+    ensures y { result.1 ≡ some shifts_y (rows number) }
 {
-    let end = end_row(number);
-    for k in first_row(number)..end {
-        if position(k).s != 0 {
-            return true;
-        }
-    }
-    false
-}
-
-// Whether a position of the group shifts y.
-fn has_shift_y(number: u32) -> bool
-    requires { known number ≡ true }
-    ensures { result ≡ some shifts_y (rows number) }
-{
-    let end = end_row(number);
-    for k in first_row(number)..end {
-        if position(k).t != 0 {
-            return true;
-        }
-    }
-    false
+    let rows = rows(number);
+    (
+        rows.iter().any(|row| Position::from(*row).s != 0),
+        rows.iter().any(|row| Position::from(*row).t != 0),
+    )
 }
 
 // Whether two periods suit the group.
@@ -73,14 +59,6 @@ pub(crate) fn are_allowed(number: u32, p: u32, q: u32) -> bool
     requires row_period { period q ≡ true }
     ensures { result ≡ allowed number p q }
 {
-    if number >= 10 && p != q {
-        return false;
-    }
-    if p % 2 != 0 && has_shift_x(number) {
-        return false;
-    }
-    if q % 2 != 0 && has_shift_y(number) {
-        return false;
-    }
-    true
+    let (shifts_x, shifts_y) = shifts(number);
+    (number < 10 || p == q) && (!shifts_x || p % 2 == 0) && (!shifts_y || q % 2 == 0)
 }

@@ -1,5 +1,5 @@
 // The symbols of the plane groups.
-ghost use Rattle.std.specs.Prelude.{◌≡◌, true};
+ghost use Rattle.std.specs.Prelude.{◌≡◌, true, MatchOption};
 ghost use Rattle.groups.specs.Rules.{known};
 ghost use Rattle.groups.specs.Symbols.{symbol_of, number_named};
 
@@ -17,14 +17,10 @@ pub(crate) fn symbol(number: u32) -> &'static str
     SYMBOLS[number as usize - 1]
 }
 
-// The number of the group with that symbol, and 0 for any other text.
-pub(crate) fn number_named(text: &str) -> u32
-    ensures { result ≡ number_named text.now }
+// The number of the group with that symbol.
+pub(crate) fn number_named(text: &str) -> Option<u32>
+    ensures { MatchOption result (number_named text.now ≡ 0) (λ number. (number ≡ number_named text.now) × (known number ≡ true)) }
 {
-    for k in 1..18 {
-        if symbol(k) == text {
-            return k;
-        }
-    }
-    0
+    let index = SYMBOLS.iter().position(|symbol| *symbol == text)?;
+    Some(index as u32 + 1)
 }

@@ -1,10 +1,8 @@
 // The table of positions.
-ghost use Rattle.std.specs.Prelude.{◌≡◌, ◌<◌, ◌≤◌, true, pos, slice_index_or, unsigned_abs};
+ghost use Rattle.std.specs.Prelude.{◌≡◌, true, map};
 ghost use Rattle.groups.specs.Rules.{known};
-ghost use Rattle.groups.specs.Table.{numbers, row, first_row, end_row};
-ghost use Rattle.groups.specs.Positions.{Small};
-
-use super::position::Position;
+ghost use Rattle.groups.specs.Positions.{position_of};
+ghost use Rattle.groups.specs.Table.{rows};
 
 // The positions of the seventeen plane groups, a row each: a b c d s t.
 #[rattlefmt::skip]
@@ -100,45 +98,12 @@ const STARTS: [usize; 18] = [
     0, 1, 3, 5, 7, 11, 15, 19, 23, 31, 35, 43, 51, 54, 60, 66, 72, 84,
 ];
 
-// The number at the place `i` of the table.
-fn entry(i: usize) -> i64
-    requires { i < 504 }
-    ensures value { result ≡ slice_index_or numbers i (pos 0) }
-    ensures small { unsigned_abs result ≤ 1 }
-{
-    POSITIONS[i] as i64
-}
-
-// The position in the row `k` of the table.
-pub(crate) fn position(k: usize) -> Position
-    requires { k < 84 }
-    ensures value { result ≡ row k }
-    ensures small { Small result }
-{
-    let i = 6 * k;
-    Position {
-        a: entry(i),
-        b: entry(i + 1),
-        c: entry(i + 2),
-        d: entry(i + 3),
-        s: entry(i + 4),
-        t: entry(i + 5),
-    }
-}
-
-// The row of a group's first position.
-pub(crate) fn first_row(number: u32) -> usize
+// The six numbers of each position of the group.
+pub(crate) fn rows(number: u32) -> &'static [[i8; 6]]
     requires { known number ≡ true }
-    ensures { result ≡ first_row number }
+    ensures { map position_of result.now ≡ rows number }
 {
-    STARTS[number as usize - 1]
-}
-
-// The row after a group's last position.
-pub(crate) fn end_row(number: u32) -> usize
-    requires { known number ≡ true }
-    ensures value { result ≡ end_row number }
-    ensures bounds { (first_row number ≤ result) × (result ≤ 84) }
-{
-    STARTS[number as usize]
+    let (table, _) = POSITIONS.as_chunks::<6>();
+    let number = number as usize;
+    &table[STARTS[number - 1]..STARTS[number]]
 }

@@ -3,6 +3,7 @@ ghost use Rattle.std.specs.Prelude.{◌≡◌, true};
 ghost use Rattle.groups.specs.Rules.{known, allowed};
 
 pub mod folds;
+mod homes;
 pub mod makes;
 
 // A plane group with the period `p` in x and `q` in y.

@@ -3,8 +3,8 @@ ghost use Rattle.std.specs.Prelude.{◌≡◌};
 ghost use Rattle.groups.specs.Tabled.{tabled};
 ghost use Rattle.groups.specs.Homing.{tabled_laws};
 
-use super::super::homes::{home, kinds};
 use super::Tabled;
+use super::homes::Near;
 use plane::cell::Cell;
 use plane::fold::{Extent, Fold, FoldRefused};
 use plane::symmetry::Symmetry;
@@ -25,8 +25,9 @@ impl Symmetry for Tabled {
         if !at.is_within(1_000_000) {
             return Err(FoldRefused::OffSpan);
         }
-        let home = home(self.number, self.p, self.q, at);
-        let kinds = kinds(self.number, self.p, self.q, at, home);
+        let cell = Near { group: *self, at };
+        let home = cell.home();
+        let kinds = cell.kinds(home);
         Ok(Fold { home, kinds })
     }
 }

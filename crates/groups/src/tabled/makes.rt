@@ -7,7 +7,7 @@ ghost use Rattle.groups.specs.Table.{rows};
 
 use super::super::rules::{GroupRefused, are_allowed, from_one_to};
 use super::super::symbols::{number_named, symbol};
-use super::super::table::{end_row, first_row};
+use super::super::table::rows;
 use super::Tabled;
 
 impl Tabled {
@@ -15,15 +15,9 @@ impl Tabled {
     pub fn numbered(number: i64, p: i64, q: i64) -> Result<Tabled, GroupRefused>
         ensures { MatchResult result (λ s. (refusal (natural number) (natural p) (natural q) ≡ None) × (s.number ≡ natural number) × (s.p ≡ natural p) × (s.q ≡ natural q)) (λ e. refusal (natural number) (natural p) (natural q) ≡ Some e) }
     {
-        let Some(number) = from_one_to(17, number) else {
-            return Err(GroupRefused::UnknownGroup);
-        };
-        let Some(p) = from_one_to(128, p) else {
-            return Err(GroupRefused::WrongPeriods);
-        };
-        let Some(q) = from_one_to(128, q) else {
-            return Err(GroupRefused::WrongPeriods);
-        };
+        let number = from_one_to(17, number).ok_or(GroupRefused::UnknownGroup)?;
+        let p = from_one_to(128, p).ok_or(GroupRefused::WrongPeriods)?;
+        let q = from_one_to(128, q).ok_or(GroupRefused::WrongPeriods)?;
         if !are_allowed(number, p, q) {
             return Err(GroupRefused::WrongPeriods);
         }
@@ -34,7 +28,8 @@ impl Tabled {
     pub fn named(text: &str, p: i64, q: i64) -> Result<Tabled, GroupRefused>
         ensures { MatchResult result (λ s. (refusal (number_named text.now) (natural p) (natural q) ≡ None) × (s.number ≡ number_named text.now) × (s.p ≡ natural p) × (s.q ≡ natural q)) (λ e. refusal (number_named text.now) (natural p) (natural q) ≡ Some e) }
     {
-        Tabled::numbered(number_named(text) as i64, p, q)
+        let number = number_named(text).ok_or(GroupRefused::UnknownGroup)?;
+        Tabled::numbered(number.into(), p, q)
     }
 
     // The group's symbol.
@@ -48,7 +43,7 @@ impl Tabled {
     pub fn positions(&self) -> usize
         ensures { result ≡ length (rows self.now.number) }
     {
-        end_row(self.number) - first_row(self.number)
+        rows(self.number).len()
     }
 
     // The group's number.

@@ -1,21 +1,27 @@
-use Rattle.std.proofs.Common.{sym, refl, ◌∙◌}
-use borrow.Author.Tests.{both_ways}
-use Rattle.std.proofs.lemmas.Bool.Decides.{Decides-eqb}
-use Rattle.std.proofs.lemmas.Slice.Eq.{slice_eq-Decides}
-use Rattle.groups.specs.Symbols.{number_named}
-use Rattle.groups.proofs.Naming.{named_here, named_later}
+use Rattle.std.proofs.Common.{◌≡◌, ℕ, ◌+◌, true, List, Option, MatchOption, subst, rules, tests, refl}
+use Rattle.std.specs.Str.{bytes_eq}
+use Rattle.std.proofs.lemmas.Iterator.{YieldsList-from_slice}
+use Rattle.std.proofs.lemmas.Iterator.Search.{position_from_yields_List}
+use Rattle.groups.specs.Symbols.{symbols, number_named}
+use Rattle.groups.specs.Rules.{known}
+use Rattle.groups.proofs.Naming.{named}
 use Rattle.groups.proofs.symbols.number_named.Goals as goal
+use Rattle.groups.proofs.symbols.number_named.Goals.{After-position}
 
-pub loop-k-init : goal.loop-k-init
-unfolding number_named
-loop-k-init c = refl
+-- what the search found
+abbrev Found : Option ℕ → List ℕ → Type 0
+Found r s = MatchOption r (number_named s ≡ 0) (λ i. (i + 1 ≡ number_named s) × (known (i + 1) ≡ true))
 
-pub returns-then-eq : goal.returns-then-eq
-returns-then-eq c =
-    named_here c.loop-k.k c.args.text.now (number_named c.args.text.now) c.loop-k-test.true c.loop-k.invariant
-    (sym c.symbol.ensures ∙ (slice_eq-Decides Decides-eqb c.symbol.result.now c.args.text.now c.eq.result c.eq.ensures).0 c.if-eq.true)
+found : (c : After-position) → Found c.position.result c.args.text.now
+unfolding symbols
+found c =
+    let is = position_from_yields_List (λ s. bytes_eq s.now c.args.text.now) _ _ c.position.result c.position.ensures.ran (YieldsList-from_slice _ c.iter.ensures.rest) (λ x b q k. search (rules, tests)) in
+    named _ _ c.args.text.now c.position.result _ c.iter.ensures.rest is c.position.ensures.bound c.iter.ensures.len refl
 
-pub loop-k-preserved : goal.loop-k-preserved
-loop-k-preserved c =
-    named_later c.loop-k.k c.args.text.now (number_named c.args.text.now) c.loop-k-test.true c.loop-k.invariant
-    (λ e. both_ways c.eq.result c.if-eq.false ((slice_eq-Decides Decides-eqb c.symbol.result.now c.args.text.now c.eq.result c.eq.ensures).1 (c.symbol.ensures ∙ e)))
+pub returns-in_err-index : goal.returns-in_err-index
+returns-in_err-index c =
+    let h : number_named c.args.text.now ≡ 0 = subst (λ (r : Option ℕ). Found r c.args.text.now) c.in_err-index.was (found (goal.at.returns-in_err-index c).After-position) in
+    search rules
+
+pub returns : goal.returns
+returns c = subst (λ (r : Option ℕ). Found r c.args.text.now) c.in_ok-index.was (found (goal.at.returns c).After-position)
