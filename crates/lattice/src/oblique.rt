@@ -26,19 +26,14 @@ pub struct Oblique {
 }
 
 impl Oblique {
-    // The oblique symmetry of the vectors (ax, ay) and (bx, by), or why they are refused.
-    pub fn over(ax: i64, ay: i64, bx: i64, by: i64) -> Result<Oblique, LatticeRefused>
-        ensures outcome { MatchResult result (λ s. (s.vectors ≡ record { ax = ax; ay = ay; bx = bx; by = by }) × (refusal s.vectors ≡ None)) (λ why. refusal (record { ax = ax; ay = ay; bx = bx; by = by }) ≡ Some why) }
+    // The oblique symmetry of two vectors, or why they are refused.
+    pub fn over(vectors: Vectors) -> Result<Oblique, LatticeRefused>
+        ensures outcome { MatchResult result (λ s. (s.vectors ≡ vectors) × (refusal s.vectors ≡ None)) (λ why. refusal vectors ≡ Some why) }
         ensures reduced { IfOk result (λ s. Reduces s.vectors s.reduced) }
         ensures homes { IfOk result (λ s. (p : Place) → OneInBox s.vectors s.reduced p) }
     {
-        match reduce(ax, ay, bx, by) {
-            Ok(reduced) => Ok(Oblique {
-                vectors: Vectors { ax, ay, bx, by },
-                reduced,
-            }),
-            Err(why) => Err(why),
-        }
+        let reduced = reduce(vectors)?;
+        Ok(Oblique { vectors, reduced })
     }
 
     // The reduction of its lattice.

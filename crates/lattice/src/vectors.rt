@@ -1,6 +1,7 @@
 // Two vectors of the plane.
 ghost use Rattle.std.specs.Prelude.{◌≡◌, true, nat_le, unsigned_abs};
 ghost use Rattle.lattice.specs.Lattice.{area, small, refusal};
+ghost use Rattle.lattice.specs.Refusals.{unless};
 
 use super::refused::LatticeRefused;
 use ints::products::cross;
@@ -39,16 +40,16 @@ impl Vectors {
         cross(self.ax, self.by, self.ay, self.bx)
     }
 
-    // Why the vectors are refused, if they are: first for a long entry, then as parallel.
-    pub fn refusal(self) -> Option<LatticeRefused>
-        ensures { result ≡ refusal self }
+    // Whether the vectors give a lattice, or why they are refused: first for a long entry, then as parallel.
+    pub fn check(self) -> Result<(), LatticeRefused>
+        ensures { result ≡ unless (refusal self) tt }
     {
         if !self.is_small() {
-            return Some(LatticeRefused::TooLong);
+            return Err(LatticeRefused::TooLong);
         }
-        if self.area().unsigned_abs() == 0 {
-            return Some(LatticeRefused::Parallel);
+        if self.area() == 0 {
+            return Err(LatticeRefused::Parallel);
         }
-        None
+        Ok(())
     }
 }
