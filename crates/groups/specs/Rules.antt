@@ -1,17 +1,10 @@
 -- The rules for a group's number and periods.
-use Rattle.std.specs.Prelude.{ℕ, ◌%◌, Bool, not, ◌&&◌, ◌||◌, ℤ, pos, negsuc, ◌==◌, nat_le}
+use Rattle.std.specs.Prelude.{ℕ, ◌%◌, Bool, not, ◌&&◌, ◌||◌, pos, ◌==◌, nat_le}
 use Rattle.std.specs.Ordering.{int_eq}
+use Rattle.ints.specs.Ranges.{from_one_to}
 use Rattle.groups.specs.declared.position.Position.{Position}
 use Rattle.groups.specs.Lists.{some}
 use Rattle.groups.specs.Table.{rows}
-
--- a number that is given; one below 0 counts as 0, which is neither a group's number nor a period
-abbrev pub natural : ℤ → ℕ
-natural (pos m) = m
-natural (negsuc m) = 0
-
-abbrev pub from_one_to : ℕ → ℕ → Bool
-from_one_to top m = nat_le 1 m && nat_le m top
 
 -- a group's number
 abbrev pub known : ℕ → Bool

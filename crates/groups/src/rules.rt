@@ -1,8 +1,8 @@
 // The rules for a group's number and periods.
-ghost use Rattle.std.specs.Prelude.{◌≡◌, true, false, MatchOption};
+ghost use Rattle.std.specs.Prelude.{◌≡◌, true};
 ghost use Rattle.groups.specs.Lists.{some};
 ghost use Rattle.groups.specs.Refusals.{group_number};
-ghost use Rattle.groups.specs.Rules.{allowed, from_one_to, known, natural, period, shifts_x, shifts_y};
+ghost use Rattle.groups.specs.Rules.{allowed, known, period, shifts_x, shifts_y};
 ghost use Rattle.groups.specs.Table.{rows};
 
 use super::position::Position;
@@ -27,16 +27,6 @@ impl GroupRefused {
             GroupRefused::WrongPeriods => 12,
         }
     }
-}
-
-// The number, if it is from 1 to `top`.
-pub(crate) fn from_one_to(top: u32, z: i64) -> Option<u32>
-    ensures { MatchOption result (from_one_to top (natural z) ≡ false) (λ n. (n ≡ natural z) × (from_one_to top (natural z) ≡ true)) }
-{
-    if z < 1 || z > top as i64 {
-        return None;
-    }
-    Some(z as u32)
 }
 
 // Whether a position of the group shifts x, and whether one shifts y.

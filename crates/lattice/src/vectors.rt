@@ -1,10 +1,11 @@
 // Two vectors of the plane.
-ghost use Rattle.std.specs.Prelude.{◌≡◌, true, nat_le, unsigned_abs};
+ghost use Rattle.std.specs.Prelude.{◌≡◌, true};
 ghost use Rattle.lattice.specs.Lattice.{area, small, refusal};
 ghost use Rattle.lattice.specs.Refusals.{unless};
 
 use super::refused::LatticeRefused;
 use ints::products::cross;
+use ints::ranges::is_at_most;
 
 // The vectors (ax, ay) and (bx, by).
 #[derive(Clone, Copy, PartialEq, Eq, Debug)]
@@ -15,21 +16,13 @@ pub struct Vectors {
     pub by: i64,
 }
 
-// Whether an entry is at most 256 either way.
-fn is_entry(a: i64) -> bool
-    ensures { result ≡ nat_le (unsigned_abs a) 256 }
-{
-    a.unsigned_abs() <= 256
-}
-
 impl Vectors {
     // Whether no entry is beyond 256 either way.
     fn is_small(self) -> bool
         ensures { result ≡ small self }
     {
-        let first = is_entry(self.ax) && is_entry(self.ay);
-        let second = is_entry(self.bx) && is_entry(self.by);
-        first && second
+        (is_at_most(self.ax, 256) && is_at_most(self.ay, 256))
+            && (is_at_most(self.bx, 256) && is_at_most(self.by, 256))
     }
 
     // The determinant.

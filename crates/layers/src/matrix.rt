@@ -1,10 +1,11 @@
 // The matrix of a recast.
-ghost use Rattle.std.specs.Prelude.{◌≡◌, true, nat_le, unsigned_abs};
+ghost use Rattle.std.specs.Prelude.{◌≡◌, true};
 ghost use Rattle.plane.specs.Cells.{Within};
 ghost use Rattle.layers.specs.Recast.{volume, small, fair, inverse, applied, recast_extent};
 
 use super::refused::{LayerRefused, judge};
 use ints::products::{cross, dot, product};
+use ints::ranges::is_at_most;
 use plane::cell::Cell;
 use plane::fold::Extent;
 
@@ -17,21 +18,12 @@ pub struct Matrix {
     pub d: i64,
 }
 
-// Whether an entry is at most 8 either way.
-fn is_entry(a: i64) -> bool
-    ensures { result ≡ nat_le (unsigned_abs a) 8 }
-{
-    a.unsigned_abs() <= 8
-}
-
 impl Matrix {
     // Whether no entry is beyond 8 either way.
     fn is_small(self) -> bool
         ensures { result ≡ small self }
     {
-        let first = is_entry(self.a) && is_entry(self.b);
-        let second = is_entry(self.c) && is_entry(self.d);
-        first && second
+        (is_at_most(self.a, 8) && is_at_most(self.b, 8)) && (is_at_most(self.c, 8) && is_at_most(self.d, 8))
     }
 
     // The determinant.

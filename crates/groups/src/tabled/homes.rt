@@ -59,10 +59,7 @@ impl Near {
     {
         let mut best = self.group.reduced(self.at);
         for row in rows(self.group.number) {
-            let image = self.image(Position::from(*row));
-            if image.precedes(best) {
-                best = image;
-            }
+            best = best.min(self.image(Position::from(*row)));
         }
         best
     }

@@ -1,14 +1,15 @@
 // How a tabled group is made, and what it is made of.
 ghost use Rattle.std.specs.Prelude.{◌≡◌, length, Some, None, MatchResult};
-ghost use Rattle.groups.specs.Rules.{natural};
+ghost use Rattle.ints.specs.Ranges.{natural};
 ghost use Rattle.groups.specs.Refusals.{refusal};
 ghost use Rattle.groups.specs.Symbols.{number_named, symbol_of};
 ghost use Rattle.groups.specs.Table.{rows};
 
-use super::super::rules::{GroupRefused, are_allowed, from_one_to};
+use super::super::rules::{GroupRefused, are_allowed};
 use super::super::symbols::{number_named, symbol};
 use super::super::table::rows;
 use super::Tabled;
+use ints::ranges::from_one_to;
 
 impl Tabled {
     // The group with that number at these periods.

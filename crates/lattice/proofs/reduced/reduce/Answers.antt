@@ -1,7 +1,5 @@
 use Rattle.std.proofs.Common.{◌≡◌, nat_abs, Ok, sym, ap, ◌∙◌, subst}
-use Rattle.lattice.specs.declared.vectors.Vectors.{Vectors}
 use Rattle.lattice.specs.declared.reduced.Upright.{Upright}
-use Rattle.lattice.specs.Refusals.{unless}
 use Rattle.lattice.specs.Lattice.{refusal}
 use Rattle.lattice.specs.Reduction.{Reduces, upright, euclid, reduction}
 use Rattle.lattice.specs.Sizes.{area_some}

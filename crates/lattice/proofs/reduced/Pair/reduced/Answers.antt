@@ -1,4 +1,4 @@
-use Rattle.std.proofs.Common.{◌≡◌, ap, ◌∙◌, arith}
+use Rattle.std.proofs.Common.{ap, ◌∙◌, arith}
 use Rattle.lattice.specs.declared.reduced.Upright.{Upright}
 use Rattle.lattice.specs.Reduction.{euclid}
 use Rattle.lattice.specs.Euclid.{no_more, next_is}
