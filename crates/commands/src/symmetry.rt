@@ -3,6 +3,7 @@ use super::fields::{Fields, Read, Word};
 use super::trouble::{Fault, Trouble, Wanted};
 use groups::tabled::Tabled;
 use lattice::oblique::Oblique;
+use lattice::vectors::Vectors;
 use layers::layer::Layer;
 use layers::matrix::Matrix;
 use layers::vector::Vector;
@@ -51,7 +52,7 @@ fn base(ground: Ground) -> Result<Base, u8> {
             Ok(group) => Ok(Base::Tabled(group)),
             Err(why) => Err(why.number()),
         },
-        Ground::Oblique { ax, ay, bx, by } => match Oblique::over(ax, ay, bx, by) {
+        Ground::Oblique { ax, ay, bx, by } => match Oblique::over(Vectors { ax, ay, bx, by }) {
             Ok(oblique) => Ok(Base::Oblique(oblique)),
             Err(why) => Err(why.number()),
         },

@@ -11,6 +11,7 @@ use command::{Command, ReadLine};
 use groups::rules::GroupRefused;
 use groups::tabled::Tabled;
 use lattice::reduced::reduce;
+use lattice::vectors::Vectors;
 use pile::pile::Pile;
 use plane::cell::Cell;
 use plane::symmetry::Symmetry;
@@ -53,7 +54,7 @@ fn fold_answer(symmetry: Pile, at: Cell) -> Answer {
 }
 
 fn reduce_answer(ax: i64, ay: i64, bx: i64, by: i64) -> Answer {
-    match reduce(ax, ay, bx, by) {
+    match reduce(Vectors { ax, ay, bx, by }) {
         Ok(reduced) => Answer::Reduced(reduced),
         Err(why) => Answer::Refused(why.number()),
     }

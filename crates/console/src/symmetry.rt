@@ -1,6 +1,7 @@
 // Symmetries as a line says them: a base, and layers over it, the lowest first.
 use groups::tabled::Tabled;
 use lattice::oblique::Oblique;
+use lattice::vectors::Vectors;
 use layers::layer::Layer;
 use pile::base::Base;
 use pile::pile::Pile;
@@ -40,7 +41,7 @@ fn base(ground: Ground) -> Result<Base, u8> {
             Ok(group) => Ok(Base::Tabled(group)),
             Err(why) => Err(why.number()),
         },
-        Ground::Oblique { ax, ay, bx, by } => match Oblique::over(ax, ay, bx, by) {
+        Ground::Oblique { ax, ay, bx, by } => match Oblique::over(Vectors { ax, ay, bx, by }) {
             Ok(oblique) => Ok(Base::Oblique(oblique)),
             Err(why) => Err(why.number()),
         },

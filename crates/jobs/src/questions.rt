@@ -8,6 +8,7 @@ use commands::symmetry::{Description, Made, Make};
 use groups::rules::GroupRefused;
 use groups::tabled::Tabled;
 use lattice::reduced::reduce;
+use lattice::vectors::Vectors;
 use lines::line::Line;
 use pile::pile::Pile;
 use plane::cell::Cell;
@@ -27,7 +28,7 @@ enum Asked {
 }
 
 fn reduced(ax: i64, ay: i64, bx: i64, by: i64) -> Reply {
-    match reduce(ax, ay, bx, by) {
+    match reduce(Vectors { ax, ay, bx, by }) {
         Ok(reduced) => Reply::Reduced(reduced),
         Err(why) => Reply::Refused(why.number()),
     }

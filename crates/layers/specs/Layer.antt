@@ -2,6 +2,7 @@
 --     lowered   the cell that is folded below in place of a cell, or a refusal where that is off the layer's span
 --     raised    the layer's fold, made from the fold below
 use Rattle.std.specs.Prelude.{Bool, true, false, Ok, Err, Result}
+use Rattle.std.specs.Result.{result_unwrap_or}
 use Rattle.plane.specs.declared.cell.Cell.{Cell}
 use Rattle.plane.specs.declared.kinds.Kinds.{Kinds}
 use Rattle.plane.specs.declared.fold.Extent.{Extent}
@@ -60,8 +61,7 @@ recounted Counterchange k = exchanged k
 
 -- the extent of a layer that is held over a symmetry
 abbrev pub settled_extent : Result Extent LayerRefused → Extent → Extent
-settled_extent (Ok own) below = own
-settled_extent (Err why) below = below
+settled_extent = result_unwrap_or
 
 -- the cell, if it is within the span
 abbrev pub in_span : Bool → Cell → Result Cell FoldRefused

@@ -54,14 +54,8 @@ impl Layer {
         ensures { result ≡ down self at }
     {
         match self {
-            Layer::Shift(vector) => {
-                let back = vector.reverse();
-                back.moved(at)
-            }
-            Layer::Recast(matrix) => {
-                let back = matrix.inverse();
-                back.applied(at)
-            }
+            Layer::Shift(vector) => vector.reverse().moved(at),
+            Layer::Recast(matrix) => matrix.inverse().applied(at),
             Layer::Counterchange => at,
         }
     }
@@ -83,8 +77,7 @@ impl Layer {
         ensures { result ≡ recounted self kinds }
     {
         match self {
-            Layer::Shift(_) => kinds,
-            Layer::Recast(_) => kinds,
+            Layer::Shift(_) | Layer::Recast(_) => kinds,
             Layer::Counterchange => exchange(kinds),
         }
     }
@@ -93,32 +86,25 @@ impl Layer {
     pub fn lower(self, below: Extent, at: Cell) -> Result<Cell, FoldRefused>
         ensures { result ≡ lowered self below at }
     {
-        match self.extent_over(below) {
-            Ok(own) => {
-                if !at.is_within(own.span) {
-                    return Err(FoldRefused::OffSpan);
-                }
-                Ok(self.down(at))
-            }
-            Err(_) => Ok(at),
+        let Ok(own) = self.extent_over(below) else {
+            return Ok(at);
+        };
+        if !at.is_within(own.span) {
+            return Err(FoldRefused::OffSpan);
         }
+        Ok(self.down(at))
     }
 
     // The layer's fold of a cell, from the fold below of the lowered cell.
     pub fn raise(self, below: Extent, found: Fold) -> Fold
         ensures { result ≡ raised self below found }
     {
-        match self.extent_over(below) {
-            Ok(_) => {
-                if !found.home.is_within(below.hem) {
-                    return found;
-                }
-                Fold {
-                    home: self.up(found.home),
-                    kinds: self.recount(found.kinds),
-                }
-            }
-            Err(_) => found,
+        if self.extent_over(below).is_err() || !found.home.is_within(below.hem) {
+            return found;
+        }
+        Fold {
+            home: self.up(found.home),
+            kinds: self.recount(found.kinds),
         }
     }
 }
@@ -128,10 +114,7 @@ pub fn extent_of_layer<S: Symmetry>(layer: Layer, below: &S) -> Extent
     ensures { result ≡ extent_of (layered layer (S.Symmetry.meaning below.now)) }
 {
     let extent = below.extent();
-    match layer.extent_over(extent) {
-        Ok(own) => own,
-        Err(_) => extent,
-    }
+    layer.extent_over(extent).unwrap_or(extent)
 }
 
 // The fold of a layer that is held over a symmetry.

@@ -23,7 +23,8 @@ impl Matrix {
     fn is_small(self) -> bool
         ensures { result ≡ small self }
     {
-        (is_at_most(self.a, 8) && is_at_most(self.b, 8)) && (is_at_most(self.c, 8) && is_at_most(self.d, 8))
+        (is_at_most(self.a, 8) && is_at_most(self.b, 8))
+            && (is_at_most(self.c, 8) && is_at_most(self.d, 8))
     }
 
     // The determinant.
@@ -38,17 +39,14 @@ impl Matrix {
     fn is_fair(self) -> bool
         ensures { result ≡ fair self }
     {
-        if !self.is_small() {
-            return false;
-        }
-        self.volume().unsigned_abs() == 1
+        self.is_small() && self.volume().unsigned_abs() == 1
     }
 
     // The extent of a symmetry recast by the matrix, or why the matrix is refused.
     pub fn extent_over(self, below: Extent) -> Result<Extent, LayerRefused>
         ensures { result ≡ recast_extent self below }
     {
-        judge(self.is_fair(), below.span / 16, below.hem as u64 * 16)
+        judge(self.is_fair(), below.span / 16, u64::from(below.hem) * 16)
     }
 
     // The matrix that undoes it.

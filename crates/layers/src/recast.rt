@@ -20,12 +20,11 @@ pub struct Recast<S> {
 }
 
 impl<S: Symmetry> Recast<S> {
-    // The symmetry recast by the matrix with the rows (a b) and (c d), or the refusal with the symmetry as it was.
-    pub fn over(below: S, a: i64, b: i64, c: i64, d: i64) -> Result<Recast<S>, Refused<S>>
-        ensures outcome { result ≡ made_over (recast_extent (record { a = a; b = b; c = c; d = d }) (extent_of (S.Symmetry.meaning below))) (record { below = below; by = record { a = a; b = b; c = c; d = d } }) below }
-        ensures alike { IfOk result (λ s. Alike (recasted s.by (S.Symmetry.meaning s.below)) (recast_by (record { a = a; b = b; c = c; d = d }) (S.Symmetry.meaning below))) }
+    // The symmetry recast by the matrix, or the refusal with the symmetry as it was.
+    pub fn over(below: S, by: Matrix) -> Result<Recast<S>, Refused<S>>
+        ensures outcome { result ≡ made_over (recast_extent by (extent_of (S.Symmetry.meaning below))) (record { below = below; by = by }) below }
+        ensures alike { IfOk result (λ s. Alike (recasted s.by (S.Symmetry.meaning s.below)) (recast_by by (S.Symmetry.meaning below))) }
     {
-        let by = Matrix { a, b, c, d };
         match by.extent_over(below.extent()) {
             Ok(_) => Ok(Recast { below, by }),
             Err(why) => Err(Refused { below, why }),

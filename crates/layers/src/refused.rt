@@ -1,6 +1,6 @@
 // Why a layer is refused.
 ghost use Rattle.std.specs.Prelude.{◌≡◌};
-ghost use Rattle.layers.specs.Refusals.{layer_number, roomy, judged};
+ghost use Rattle.layers.specs.Refusals.{layer_number, judged};
 
 use plane::fold::Extent;
 
@@ -32,24 +32,18 @@ pub struct Refused<S> {
     pub why: LayerRefused,
 }
 
-// Whether an extent has a span of at least 1 and a hem of at most 1,000,000,000.
-fn has_room(span: u32, hem: u64) -> bool
-    ensures { result ≡ roomy (record { span = span; hem = hem }) }
-{
-    span >= 1 && hem <= 1_000_000_000
-}
-
 // The extent that a layer would have, or why it is refused: first if it is against the rules, then for want of room.
 pub(crate) fn judge(fair: bool, span: u32, hem: u64) -> Result<Extent, LayerRefused>
     ensures { result ≡ judged fair (record { span = span; hem = hem }) }
 {
-    let room = has_room(span, hem);
-    match (fair, room) {
-        (false, _) => Err(LayerRefused::AgainstRules),
-        (_, false) => Err(LayerRefused::NoRoom),
-        (true, true) => Ok(Extent {
-            span,
-            hem: hem as u32,
-        }),
+    if !fair {
+        return Err(LayerRefused::AgainstRules);
     }
+    if span < 1 || hem > 1_000_000_000 {
+        return Err(LayerRefused::NoRoom);
+    }
+    Ok(Extent {
+        span,
+        hem: hem as u32,
+    })
 }

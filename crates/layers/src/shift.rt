@@ -20,12 +20,11 @@ pub struct Shift<S> {
 }
 
 impl<S: Symmetry> Shift<S> {
-    // The symmetry shifted by (u, v), or the refusal with the symmetry as it was.
-    pub fn over(below: S, u: i64, v: i64) -> Result<Shift<S>, Refused<S>>
-        ensures outcome { result ≡ made_over (shift_extent (record { u = u; v = v }) (extent_of (S.Symmetry.meaning below))) (record { below = below; by = record { u = u; v = v } }) below }
-        ensures alike { IfOk result (λ s. Alike (shifted s.by (S.Symmetry.meaning s.below)) (moved_by (record { u = u; v = v }) (S.Symmetry.meaning below))) }
+    // The symmetry shifted by the vector, or the refusal with the symmetry as it was.
+    pub fn over(below: S, by: Vector) -> Result<Shift<S>, Refused<S>>
+        ensures outcome { result ≡ made_over (shift_extent by (extent_of (S.Symmetry.meaning below))) (record { below = below; by = by }) below }
+        ensures alike { IfOk result (λ s. Alike (shifted s.by (S.Symmetry.meaning s.below)) (moved_by by (S.Symmetry.meaning below))) }
     {
-        let by = Vector { u, v };
         match by.extent_over(below.extent()) {
             Ok(_) => Ok(Shift { below, by }),
             Err(why) => Err(Refused { below, why }),

@@ -19,9 +19,7 @@ impl Vector {
     fn reach(self) -> u64
         ensures { result ≡ reach self }
     {
-        let columns = self.u.unsigned_abs();
-        let rows = self.v.unsigned_abs();
-        if columns < rows { rows } else { columns }
+        self.u.unsigned_abs().max(self.v.unsigned_abs())
     }
 
     // The extent of a symmetry shifted by the vector, or why the shift is refused.
@@ -29,8 +27,8 @@ impl Vector {
         ensures { result ≡ shift_extent self below }
     {
         let reach = self.reach();
-        let span = (below.span as u64).saturating_sub(reach) as u32;
-        let hem = below.hem as u64 + reach;
+        let span = u64::from(below.span).saturating_sub(reach) as u32;
+        let hem = u64::from(below.hem) + reach;
         judge(reach <= 1000, span, hem)
     }
 

@@ -5,4 +5,4 @@ use Rattle.layers.specs.Recasting.{inverse_test}
 use Rattle.layers.proofs.layer.Layer.down.Goals as goal
 
 pub applied-requires : goal.applied-requires
-applied-requires c = (ap small c.inverse-back.ensures ∙ inverse_test c.in-Recast.matrix (sym (ap keeps c.in-Recast.is) ∙ c.requires.0), c.requires.1)
+applied-requires c = (ap small c.inverse.ensures ∙ inverse_test c.in-Recast.matrix (sym (ap keeps c.in-Recast.is) ∙ c.requires.0), c.requires.1)
