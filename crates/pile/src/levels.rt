@@ -18,10 +18,7 @@ impl Level {
     fn extent(self) -> Extent
         ensures { result ≡ level_extent self }
     {
-        match self.layer.extent_over(self.below) {
-            Ok(own) => own,
-            Err(_) => self.below,
-        }
+        self.layer.extent_over(self.below).unwrap_or(self.below)
     }
 }
 
@@ -29,11 +26,7 @@ impl Level {
 pub(crate) fn extent_of_top(levels: &[Level], base: Extent) -> Extent
     ensures { result ≡ top_extent levels.now base }
 {
-    let count = levels.len();
-    if count == 0 {
-        return base;
-    }
-    levels[count - 1].extent()
+    levels.last().map_or(base, |level| level.extent())
 }
 
 // The cell that is folded in the base in place of `at`, or a refusal where a level refuses.
@@ -41,14 +34,8 @@ pub(crate) fn lower_through(levels: &[Level], at: Cell) -> Result<Cell, FoldRefu
     ensures { result ≡ lowered_through levels.now at }
 {
     let mut cell = at;
-    let mut count = levels.len();
-    while count > 0 {
-        count -= 1;
-        let level = levels[count];
-        match level.layer.lower(level.below, cell) {
-            Ok(lowered) => cell = lowered,
-            Err(refused) => return Err(refused),
-        }
+    for level in levels.iter().rev() {
+        cell = level.layer.lower(level.below, cell)?;
     }
     Ok(cell)
 }

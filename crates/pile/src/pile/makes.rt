@@ -33,12 +33,8 @@ impl Pile {
         ensures alike { MatchResult result (λ _. Alike (pile_meaning self.new) (laid layer (pile_meaning self.old))) (λ _. Alike (pile_meaning self.new) (pile_meaning self.old)) }
     {
         let below = self.extent();
-        if let Err(why) = layer.extent_over(below) {
-            return Err(PileRefused::Layer(why));
-        }
-        match self.levels.push(Level { layer, below }) {
-            Ok(_) => Ok(()),
-            Err(_) => Err(PileRefused::NoMemory),
-        }
+        layer.extent_over(below)?;
+        self.levels.push(Level { layer, below })?;
+        Ok(())
     }
 }

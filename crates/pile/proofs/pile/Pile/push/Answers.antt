@@ -1,5 +1,4 @@
-use Rattle.std.proofs.Common.{[], ◌∷◌, ◌++◌, is_ok, vec_items, sym, refl, ap, ◌∙◌}
-use Rattle.plane.specs.declared.fold.Extent.{Extent}
+use Rattle.std.proofs.Common.{is_ok, vec_items, ap, ◌∙◌}
 use Rattle.layers.specs.Layer.{layer_extent}
 use Rattle.pile.specs.declared.levels.Level.{Level}
 use Rattle.pile.specs.Base.{based}
@@ -12,15 +11,10 @@ invariant_of-self c =
     let l : Level = record { layer = c.args.layer; below = c.extent-below.result } in
     record { level = levelled_tried (is_ok c.push.result) (vec_items s.levels) (vec_items c.push.new.self) l (based s.base) c.push.ensures.items s.level c.extent-below.ensures }
 
-pub returns-in-Ok : goal.returns-in-Ok
-returns-in-Ok c =
+pub returns-clause-alike : goal.returns-clause-alike
+returns-clause-alike c =
     let s = c.args.self.now in
     let ls = vec_items s.levels in
     let l : Level = record { layer = c.args.layer; below = c.extent-below.result } in
-    let items = c.in-Ok.ensures.items in
-    let told = c.in_default.ensures ∙ ap (layer_extent c.args.layer) c.extent-below.ensures in
-    record {
-      base = refl;
-      outcome = (sym (ap is_ok told), items ∙ ap (λ (x : Extent). ls ++ record { layer = c.args.layer; below = x } ∷ []) c.extent-below.ensures);
-      alike = grown_alike ls (vec_items c.push.new.self) l (based s.base) c.in_default.field-0 items told;
-    }
+    let told = c.in_ok-extent_over.ensures ∙ ap (layer_extent c.args.layer) c.extent-below.ensures in
+    grown_alike ls (vec_items c.push.new.self) l (based s.base) c.in_ok-extent_over.field-0 c.in_ok-push.ensures.items told
