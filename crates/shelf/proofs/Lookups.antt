@@ -1,25 +1,18 @@
 -- A sorted list is a map: what is found after a record is stored or taken. The tests are a, whether the first key is before the given one, and b, whether it is after.
-use Rattle.std.proofs.Common.{◌≡◌, ℕ, Bool, true, false, cond, ◌&&◌, ◌⊎◌, List, [], ◌∷◌, Some, None, Option, sym, refl, ap, ◌∙◌, subst, inl, inr, arith}
+use Rattle.std.proofs.Common.{◌≡◌, Bool, true, false, cond, ◌&&◌, ◌⊎◌, List, [], ◌∷◌, Some, None, Option, sym, refl, ap, ◌∙◌, subst, inl, inr}
 use Rattle.std.specs.List.{AllByRecursion as All}
-use Rattle.std.proofs.lemmas.Bool.{cond-true, cond-false, cases_Bool, and_parts, both_ways}
+use Rattle.std.proofs.lemmas.Bool.{cond-true, cond-false, cases_Bool, and_parts}
 use Rattle.shelf.specs.Keys.{Keys, TotalOrder, leads, sorted, Sorted, found, stored, taken}
+use Rattle.shelf.proofs.Ranks.{after_not}
 use Rattle.shelf.proofs.Sorting.{leads_before}
 
 module _ {R K : Type 0} (keys : Keys R K) (o : TotalOrder keys) where
-  -- a key before another is not after it
-  after_not : (j k : K) → keys.before j k ≡ true → keys.before k j ≡ false
-  after_not j k h = go (cases_Bool (keys.before k j))
-    where
-      go : (keys.before k j ≡ true) ⊎ (keys.before k j ≡ false) → keys.before k j ≡ false
-      go (inl t) = absurd (both_ways _ (o.irreflexive j) (o.transitive _ _ _ h t))
-      go (inr t) = t
-
   -- the head is passed, missed or met
   pub found_past : (k : K) (x : R) (xs : List R) → keys.before (keys.key x) k ≡ true → found keys k (x ∷ xs) ≡ found keys k xs
   found_past k x xs h = cond-true _ _ _ h
 
   pub found_none : (k : K) (x : R) (xs : List R) → keys.before k (keys.key x) ≡ true → found keys k (x ∷ xs) ≡ None
-  found_none k x xs h = cond-false _ _ _ (after_not _ _ h) ∙ cond-true _ _ _ h
+  found_none k x xs h = cond-false _ _ _ (after_not keys o _ _ h) ∙ cond-true _ _ _ h
 
   pub found_head : (x : R) (xs : List R) → found keys (keys.key x) (x ∷ xs) ≡ Some x
   found_head x xs = cond-false _ _ _ (o.irreflexive (keys.key x)) ∙ cond-false _ _ _ (o.irreflexive (keys.key x))
@@ -95,21 +88,15 @@ module _ {R K : Type 0} (keys : Keys R K) (o : TotalOrder keys) where
 
   -- the record that is found has the key, and what holds of all records holds of it
   pub found_is : (P : R → Type 0) (k : K) (xs : List R) (x : R) → All P xs → found keys k xs ≡ Some x → (keys.key x ≡ k) × P x
-  found_is P k [] x a h = absurd (never h)
-    where
-      never : ◌≡◌ {A = Option R} None (Some x) → ⊥
-      never e = let z : ◌≡◌ {A = ℕ} 0 1 = cc in omega arith
+  found_is P k [] x a h = cc
   found_is P k (y ∷ ys) x a h = go (keys.before (keys.key y) k) (keys.before k (keys.key y)) refl refl (found_is P k ys x a.1) h
     where
-      never : ◌≡◌ {A = Option R} None (Some x) → ⊥
-      never e = let z : ◌≡◌ {A = ℕ} 0 1 = cc in omega arith
-
       same : ◌≡◌ {A = Option R} (Some y) (Some x) → y ≡ x
       same e = cc
 
       go : (t b : Bool) → keys.before (keys.key y) k ≡ t → keys.before k (keys.key y) ≡ b → (found keys k ys ≡ Some x → (keys.key x ≡ k) × P x) → cond t (found keys k ys) (cond b None (Some y)) ≡ Some x → (keys.key x ≡ k) × P x
       go true b et eb more h = more h
-      go false true et eb more h = absurd (never h)
+      go false true et eb more h = cc
       go false false et eb more h =
           let e : y ≡ x = same h in
           (ap (λ (r : R). keys.key r) (sym e) ∙ o.total _ _ et eb, subst P e a.0)

@@ -2,6 +2,7 @@
 use Rattle.std.proofs.Common.{◌≡◌, ℕ, ◌+◌, ◌-◌, ◌<◌, ◌≤◌, Bool, true, false, cond, List, ◌++◌, length, get_or, take, drop, set, is_some, Some, Ok, Err, Result, sym, refl, ap, ◌∙◌, subst, arith, length-set, rules}
 use lib.Seq.{paste}
 use Rattle.std.specs.List.{insert, remove}
+use Rattle.std.specs.Result.{result_ok}
 use Rattle.std.proofs.lemmas.List.{places, same_lists, take_at, drop_at, drop-set-lt, get_or-set_same, length-take-le, get_or-take}
 use Rattle.std.proofs.lemmas.List.Edits.{length-insert, length-remove}
 use Rattle.std.proofs.lemmas.Bool.{or_left, or_right, or_from, lt-ltb, le-ltb, cases_eq}
@@ -12,23 +13,19 @@ use Rattle.shelf.proofs.Shifts.{opened, closed}
 
 located_ok : (b : Bool) (at m : ℕ) → ◌≡◌ {A = Result ℕ ℕ} (Ok at) (cond b (Ok m) (Err m)) → (b ≡ true) × (at ≡ m)
 located_ok true at m e = (refl, cc)
-located_ok false at m e = let z : ◌≡◌ {A = ℕ} 0 1 = cc in absurd (no z)
-  where
-    no : ◌≡◌ {A = ℕ} 0 1 → ⊥
-    no z = omega arith
+located_ok false at m e = cc
 
 located_err : (b : Bool) (at m : ℕ) → ◌≡◌ {A = Result ℕ ℕ} (Err at) (cond b (Ok m) (Err m)) → (b ≡ false) × (at ≡ m)
-located_err true at m e = let z : ◌≡◌ {A = ℕ} 0 1 = cc in absurd (no z)
-  where
-    no : ◌≡◌ {A = ℕ} 0 1 → ⊥
-    no z = omega arith
+located_err true at m e = cc
 located_err false at m e = (refl, cc)
 
 -- the record that was read is the one that is found
-pub read_found : {R K : Type 0} (keys : Keys R K) (xs : List R) (k : K) (at : ℕ) (x : R) → x ≡ get_or xs at x → Ok at ≡ located keys k xs → Some x ≡ found keys k xs
-read_found keys xs k at x read is =
+pub read_found : {R K : Type 0} (keys : Keys R K) (xs : List R) (k : K) (at : ℕ) (x : R) → x ≡ get_or xs at x → (answer : Result ℕ ℕ) → Some at ≡ result_ok answer → answer ≡ located keys k xs → Some x ≡ found keys k xs
+read_found keys xs k at x read (Ok i) known is =
+    let e : at ≡ i = cc in
     let f = located_ok _ _ _ is in
-    ap Some (read ∙ ap (λ i. get_or xs i x) f.1) ∙ sym (found_known keys k xs x f.0)
+    ap Some (read ∙ ap (λ i. get_or xs i x) (e ∙ f.1)) ∙ sym (found_known keys k xs x f.0)
+read_found keys xs k at x read (Err i) known is = cc
 
 module _ {R K : Type 0} (keys : Keys R K) (xs : List R) (n m : ℕ) (few : n ≤ length xs) (level : m ≡ n) where
   -- the part that was searched is what is held

@@ -1,11 +1,19 @@
--- Halving: what the key of one record tells of the rank of a key.
-use Rattle.std.proofs.Common.{◌≡◌, ℕ, zero, suc, ◌<◌, ◌≤◌, Bool, true, false, ◌⊎◌, List, [], ◌∷◌, length, get_or, sym, ap, ◌∙◌, inl, inr, zero-le, arith}
-use Rattle.std.proofs.lemmas.Bool.{cond-true, cond-false, cases_Bool, and_parts}
-use Rattle.shelf.specs.Keys.{Keys, TotalOrder, leads, sorted, Sorted, rank}
+-- Where a search ends, by how the keys of the records compare with a key.
+use Rattle.std.proofs.Common.{◌≡◌, ℕ, zero, suc, ◌+◌, ◌<◌, ◌≤◌, true, false, ◌⊎◌, List, [], ◌∷◌, length, get_or, is_some, Some, Ok, Err, Option, Result, refl, sym, ap, ◌∙◌, inl, inr, zero-le, arith}
+use Rattle.std.proofs.lemmas.Bool.{cond-true, cond-false, cases_Bool, cases_eq, and_parts, both_ways}
+use Rattle.std.proofs.lemmas.List.Sorted.{searchable_from_sorted}
+use Rattle.std.specs.Cmp.{IsTotalOrder}
+use Rattle.std.specs.List.{HoldsAt}
+use Rattle.std.specs.List.Sorted.{IsPartitionedBy, IsPartitionPoint, IsBinarySearchResult}
+use Rattle.std.specs.Ordering.{is_lt, is_some_and, ordering_reverse}
+use Rattle.std.specs.Result.{MatchResult}
+use Rattle.std.specs.declared.cmp.Ordering.{Ordering}
+use Rattle.std.specs.declared.cmp.Ordering.TheVariants.{Equal, Greater}
+use Rattle.shelf.specs.Keys.{Keys, TotalOrder, leads, sorted, Sorted, rank, found, located}
 
 module _ {R K : Type 0} (keys : Keys R K) where
   -- a key that is before all is before each
-  pub leads_at : (k : K) (xs : List R) (i : ℕ) (d : R) → leads keys k xs ≡ true → i < length xs → keys.before k (keys.key (get_or xs i d)) ≡ true
+  leads_at : (k : K) (xs : List R) (i : ℕ) (d : R) → leads keys k xs ≡ true → i < length xs → keys.before k (keys.key (get_or xs i d)) ≡ true
   leads_at k [] i d h l = absurd (none i l)
     where
       none : (i : ℕ) → i < 0 → ⊥
@@ -13,31 +21,24 @@ module _ {R K : Type 0} (keys : Keys R K) where
   leads_at k (x ∷ xs) zero d h l = (and_parts _ _ h).0
   leads_at k (x ∷ xs) (suc i) d h l = leads_at k xs i d (and_parts _ _ h).1 (omega arith)
 
+  -- in a sorted list, each key is before the later ones
+  sorted_before : (xs : List R) (i j : ℕ) (d : R) → Sorted keys xs → i < j → j < length xs → keys.before (keys.key (get_or xs i d)) (keys.key (get_or xs j d)) ≡ true
+  sorted_before [] i j d s l m = absurd (none j m)
+    where
+      none : (j : ℕ) → j < 0 → ⊥
+      none j m = omega arith
+  sorted_before (x ∷ xs) i zero d s l m = absurd (none i l)
+    where
+      none : (i : ℕ) → i < 0 → ⊥
+      none i l = omega arith
+  sorted_before (x ∷ xs) zero (suc j) d s l m = leads_at (keys.key x) xs j d (and_parts (leads keys (keys.key x) xs) (sorted keys xs) s).0 (omega arith)
+  sorted_before (x ∷ xs) (suc i) (suc j) d s l m = sorted_before xs i j d (and_parts (leads keys (keys.key x) xs) (sorted keys xs) s).1 (omega arith) (omega arith)
+
   rank_more : (k : K) (x : R) (xs : List R) → keys.before (keys.key x) k ≡ true → rank keys k (x ∷ xs) ≡ suc (rank keys k xs)
   rank_more k x xs h = cond-true _ _ _ h
 
   rank_none : (k : K) (x : R) (xs : List R) → keys.before (keys.key x) k ≡ false → rank keys k (x ∷ xs) ≡ 0
   rank_none k x xs h = cond-false _ _ _ h
-
-  -- a record whose key is not before k stands at the rank or after it
-  pub rank_up_to : (k : K) (xs : List R) (i : ℕ) (d : R) → i < length xs → keys.before (keys.key (get_or xs i d)) k ≡ false → rank keys k xs ≤ i
-  rank_up_to k [] i d l h = zero-le
-  rank_up_to k (x ∷ xs) zero d l h = omega (arith, rank_none k x xs h)
-  rank_up_to k (x ∷ xs) (suc i) d l h = go (rank_up_to k xs i d (omega arith) h) (cases_Bool (keys.before (keys.key x) k))
-    where
-      go : rank keys k xs ≤ i → (keys.before (keys.key x) k ≡ true) ⊎ (keys.before (keys.key x) k ≡ false) → rank keys k (x ∷ xs) ≤ suc i
-      go b (inl t) = omega (arith, rank_more k x xs t)
-      go b (inr t) = omega (arith, rank_none k x xs t)
-
-  -- in a sorted list, a record whose key is before k stands below the rank
-  pub rank_beyond : TotalOrder keys → (k : K) (xs : List R) (i : ℕ) (d : R) → Sorted keys xs → i < length xs → keys.before (keys.key (get_or xs i d)) k ≡ true → i < rank keys k xs
-  rank_beyond o k [] i d s l h = omega arith
-  rank_beyond o k (x ∷ xs) zero d s l h = omega (arith, rank_more k x xs h)
-  rank_beyond o k (x ∷ xs) (suc i) d s l h =
-      let p = and_parts (leads keys (keys.key x) xs) (sorted keys xs) s in
-      let b : i < length xs = omega arith in
-      let t : keys.before (keys.key x) k ≡ true = o.transitive _ _ _ (leads_at (keys.key x) xs i d p.0 b) h in
-      omega (arith, rank_more k x xs t, rank_beyond o k xs i d p.1 b h)
 
   pub rank_most : (k : K) (xs : List R) → rank keys k xs ≤ length xs
   rank_most k [] = zero-le
@@ -47,6 +48,72 @@ module _ {R K : Type 0} (keys : Keys R K) where
       go b (inl t) = omega (arith, rank_more k x xs t)
       go b (inr t) = omega (arith, rank_none k x xs t)
 
-  -- what a record that was read tells, by its key against k
-  pub read_test : (k : K) (xs : List R) (i : ℕ) (x : R) (key : K) (t b : Bool) → x ≡ get_or xs i x → key ≡ keys.key x → t ≡ keys.before key k → t ≡ b → keys.before (keys.key (get_or xs i x)) k ≡ b
-  read_test k xs i x key t b is ek et eb = ap (λ v. keys.before (keys.key v) k) (sym is) ∙ ap (λ v. keys.before v k) (sym ek) ∙ sym et ∙ eb
+  -- the records whose keys are before k are those below its rank
+  pub point_rank : (k : K) (xs : List R) (i : ℕ) → i ≤ length xs → IsPartitionPoint (λ x. keys.before (keys.key x) k ≡ true) (λ x. keys.before (keys.key x) k ≡ false) xs i → i ≡ rank keys k xs
+  point_rank k [] i l p = omega arith
+  point_rank k (x ∷ xs) zero l p = sym (rank_none k x xs (p.1 0 x zero-le (omega arith)))
+  point_rank k (x ∷ xs) (suc i) l p = ap suc (point_rank k xs i (omega arith) ((λ n d a b. p.0 (suc n) d zero-le (omega arith)), (λ n d a b. p.1 (suc n) d (omega arith) (omega arith)))) ∙ sym (rank_more k x xs (p.0 0 x zero-le (omega arith)))
+
+  module _ (o : TotalOrder keys) where
+    -- a key before another is not after it
+    pub after_not : (j k : K) → keys.before j k ≡ true → keys.before k j ≡ false
+    after_not j k h = go (cases_Bool (keys.before k j))
+      where
+        go : (keys.before k j ≡ true) ⊎ (keys.before k j ≡ false) → keys.before k j ≡ false
+        go (inl t) = absurd (both_ways _ (o.irreflexive j) (o.transitive _ _ _ h t))
+        go (inr t) = t
+
+    pub partitioned : (k : K) (xs : List R) → Sorted keys xs → IsPartitionedBy (λ x. keys.before (keys.key x) k) xs
+    partitioned k xs s i j d l m t = go (cases_eq i j)
+      where
+        go : (i ≡ j) ⊎ (i ≡ j → ⊥) → keys.before (keys.key (get_or xs i d)) k ≡ true
+        go (inl e) = ap (λ n. keys.before (keys.key (get_or xs n d)) k) e ∙ t
+        go (inr e) = o.transitive _ _ _ (sorted_before xs i j d s (omega arith) m) t
+
+    -- the record with the key k is the one that is found, at the rank of k
+    known_at : (k : K) (xs : List R) (i : ℕ) → Sorted keys xs → i < length xs → HoldsAt (λ x. (keys.before (keys.key x) k ≡ false) × (keys.before k (keys.key x) ≡ false)) xs i → (is_some (found keys k xs) ≡ true) × (i ≡ rank keys k xs)
+    known_at k [] i s l h = absurd (none i l)
+      where
+        none : (i : ℕ) → i < 0 → ⊥
+        none i l = omega arith
+    known_at k (x ∷ xs) zero s l h = let t = h x in (ap is_some (cond-false _ _ _ t.0 ∙ cond-false _ _ _ t.1), sym (rank_none k x xs t.0))
+    known_at k (x ∷ xs) (suc i) s l h =
+        let t = h x in
+        let p = and_parts (leads keys (keys.key x) xs) (sorted keys xs) s in
+        let e : keys.key (get_or xs i x) ≡ k = o.total _ _ t.0 t.1 in
+        let b : keys.before (keys.key x) k ≡ true = ap (keys.before (keys.key x)) (sym e) ∙ leads_at (keys.key x) xs i x p.0 (omega arith) in
+        let more = known_at k xs i p.1 (omega arith) (λ d. h d) in
+        (ap is_some (cond-true _ _ _ b) ∙ more.0, ap suc more.1 ∙ sym (rank_more k x xs b))
+
+    -- between the records with keys before k and those with keys after k there is none with the key k
+    unknown_at : (k : K) (xs : List R) (i : ℕ) → i ≤ length xs → IsPartitionPoint (λ x. keys.before (keys.key x) k ≡ true) (λ x. keys.before k (keys.key x) ≡ true) xs i → (is_some (found keys k xs) ≡ false) × (i ≡ rank keys k xs)
+    unknown_at k [] i l p = (refl, omega arith)
+    unknown_at k (x ∷ xs) zero l p =
+        let t : keys.before k (keys.key x) ≡ true = p.1 0 x zero-le (omega arith) in
+        let b = after_not _ _ t in
+        (ap is_some (cond-false _ _ _ b ∙ cond-true _ _ _ t), sym (rank_none k x xs b))
+    unknown_at k (x ∷ xs) (suc i) l p =
+        let b : keys.before (keys.key x) k ≡ true = p.0 0 x zero-le (omega arith) in
+        let more = unknown_at k xs i (omega arith) ((λ n d a b. p.0 (suc n) d zero-le (omega arith)), (λ n d a b. p.1 (suc n) d (omega arith) (omega arith))) in
+        (ap is_some (cond-true _ _ _ b) ∙ more.0, ap suc more.1 ∙ sym (rank_more k x xs b))
+
+    module _ (cmp : K → K → Ordering) (order : IsTotalOrder cmp) (ordered : (j k : K) → keys.before j k ≡ is_lt (cmp j k)) where
+      turned : (j k : K) (r : Ordering) → cmp j k ≡ r → keys.before k j ≡ is_lt (ordering_reverse r)
+      turned j k r e = ordered k j ∙ ap is_lt (order.antisymm k j ∙ ap ordering_reverse e)
+
+      rising : (xs : List R) → Sorted keys xs → (i : ℕ) (d : R) → 0 ≤ i → i + 1 < length xs → is_lt (cmp (keys.key (get_or xs (i + 1) d)) (keys.key (get_or xs i d))) ≡ false
+      rising xs s i d z l = sym (ordered _ _) ∙ after_not _ _ (sorted_before xs i (i + 1) d s (omega arith) l)
+
+      -- what a binary search for the key k answers
+      pub searched : (k : K) (xs : List R) (answer : Result ℕ ℕ) → MatchResult answer (λ i. i < length xs) (λ i. i ≤ length xs) → IsBinarySearchResult (λ x. cmp (keys.key x) k) xs answer → Sorted keys xs → answer ≡ located keys k xs
+      searched k xs (Ok i) w h s =
+          let a = known_at k xs i s w (λ d. (ordered _ _ ∙ ap is_lt (h d), turned _ _ Equal (h d))) in
+          ap Ok a.1 ∙ sym (cond-true _ _ _ a.0)
+      searched k xs (Err i) w h s =
+          let p = h (searchable_from_sorted order keys.key xs k (rising xs s)) in
+          let a = unknown_at k xs i w ((λ n d a b. ordered _ _ ∙ ap is_lt (p.0 n d a b)), (λ n d a b. turned _ _ Greater (p.1 n d a b))) in
+          ap Err a.1 ∙ sym (cond-false _ _ _ a.0)
+
+      -- the test `<` of two keys
+      pub less_is : (partial : K → K → Option Ordering) → ((j k : K) → partial j k ≡ Some (cmp j k)) → (j k : K) → is_some_and is_lt (partial j k) ≡ keys.before j k
+      less_is partial agrees j k = ap (is_some_and is_lt) (agrees j k) ∙ sym (ordered j k)

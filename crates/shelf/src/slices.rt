@@ -11,17 +11,7 @@ pub fn place<R: Record>(records: &[R], key: R::Key) -> usize
     ensures most { result ≤ length records.now }
     ensures is { Sorted R.Record.keys records.now → result ≡ rank R.Record.keys key records.now }
 {
-    let mut low = 0;
-    let mut high = records.len();
-    while low < high {
-        let middle = low + (high - low) / 2;
-        if R::precedes(records[middle].key(), key) {
-            low = middle + 1;
-        } else {
-            high = middle;
-        }
-    }
-    low
+    records.partition_point(|record| record.key() < key)
 }
 
 // The place of the record with the key, or else the place that it would have.
@@ -29,25 +19,15 @@ pub fn search<R: Record>(records: &[R], key: R::Key) -> Result<usize, usize>
     ensures within { MatchResult result (λ i. i < length records.now) (λ i. i ≤ length records.now) }
     ensures is { Sorted R.Record.keys records.now → result ≡ located R.Record.keys key records.now }
 {
-    let at = place(records, key);
-    if at == records.len() {
-        return Err(at);
-    }
-    if R::precedes(key, records[at].key()) {
-        Err(at)
-    } else {
-        Ok(at)
-    }
+    records.binary_search_by_key(&key, |record| record.key())
 }
 
 // The record of a key, if there is one.
 pub fn find<R: Record>(records: &[R], key: R::Key) -> Option<R>
     ensures { Sorted R.Record.keys records.now → result ≡ found R.Record.keys key records.now }
 {
-    match search(records, key) {
-        Ok(at) => Some(records[at]),
-        Err(_) => None,
-    }
+    let at = search(records, key).ok()?;
+    Some(records[at])
 }
 
 // Gives a record the place of its key among the first `count`, over that of the same key if there is one, and answers how many are held then.

@@ -1,16 +1,9 @@
-use Rattle.std.proofs.Common.{◌<◌, length, arith}
-use Rattle.shelf.proofs.Finds.{located_past, located_gap, located_here}
+use Rattle.std.proofs.Common.{rules}
+use Rattle.std.proofs.lemmas.List.Sorted.{answers_always}
+use Rattle.shelf.proofs.Ranks.{searched}
 use Rattle.shelf.proofs.slices.search.Goals as goal
 
-pub returns-then-at-records : goal.returns-then-at-records
-returns-then-at-records g c = record { within = omega arith; is = λ s. located_past g.R.Record.keys c.args.key c.args.records.now c.place-at.result (c.place-at.ensures.is s) c.if-at-records.true }
-
-pub returns-then-precedes : goal.returns-then-precedes
-returns-then-precedes g c =
-    let inside : c.place-at.result < length c.args.records.now = omega (arith, c.place-at.ensures.most) in
-    record { within = omega arith; is = λ s. located_gap g.R.Record.keys c.args.key c.args.records.now c.place-at.result c.index-records-at.result c.key.result c.precedes.result (c.place-at.ensures.is s) inside c.index-records-at.is c.key.ensures c.precedes.ensures c.if-precedes.true }
-
-pub returns-else-precedes : goal.returns-else-precedes
-returns-else-precedes g c =
-    let inside : c.place-at.result < length c.args.records.now = omega (arith, c.place-at.ensures.most) in
-    record { within = inside; is = λ s. located_here g.R.Record.keys c.args.key c.args.records.now c.place-at.result c.index-records-at.result c.key.result c.precedes.result (c.place-at.ensures.is s) inside c.index-records-at.is c.key.ensures c.precedes.ensures c.if-precedes.false }
+pub returns-clause-is : goal.returns-clause-is
+returns-clause-is g c =
+    let by_key = c.binary_search_by_key.ensures.position g.R.Record.keys.key (answers_always _ _ _ (λ f a r f' k. search rules)) in
+    searched g.R.Record.keys g.met.R.Record.total g.R.Key.Ord.cmp g.met.R.Key.Ord.total g.met.R.Record.ordered c.args.key c.args.records.now c.binary_search_by_key.result c.binary_search_by_key.ensures.bound by_key
