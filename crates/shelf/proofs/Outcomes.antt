@@ -1,4 +1,4 @@
--- What the search found makes each way of an insertion and a removal end as promised. In what follows xs is the table, and its first n records are held.
+-- What the search found makes each way of an insertion and a removal end as promised. In what follows xs is the table, and its first n records are held, in the order of their keys.
 use Rattle.std.proofs.Common.{◌≡◌, ℕ, ◌+◌, ◌-◌, ◌<◌, ◌≤◌, Bool, true, false, cond, List, ◌++◌, length, get_or, take, drop, set, is_some, Some, Ok, Err, Result, sym, refl, ap, ◌∙◌, subst, arith, length-set, rules}
 use lib.Seq.{paste}
 use Rattle.std.specs.List.{insert, remove}
@@ -27,7 +27,7 @@ read_found keys xs k at x read (Ok i) known is =
     ap Some (read ∙ ap (λ i. get_or xs i x) (e ∙ f.1)) ∙ sym (found_known keys k xs x f.0)
 read_found keys xs k at x read (Err i) known is = cc
 
-module _ {R K : Type 0} (keys : Keys R K) (xs : List R) (n m : ℕ) (few : n ≤ length xs) (level : m ≡ n) where
+module _ {R K : Type 0} (keys : Keys R K) (xs : List R) (n m : ℕ) (few : n ≤ length xs) (s : Sorted keys (take n xs)) (level : m ≡ n) where
   -- the part that was searched is what is held
   abbrev Found : K → ℕ → Type 0
   Found k at = Sorted keys (take m xs) → Ok at ≡ located keys k (take m xs)
@@ -35,11 +35,11 @@ module _ {R K : Type 0} (keys : Keys R K) (xs : List R) (n m : ℕ) (few : n ≤
   abbrev Missed : K → ℕ → Type 0
   Missed k at = Sorted keys (take m xs) → Err at ≡ located keys k (take m xs)
 
-  found_at : (k : K) (at : ℕ) → Found k at → Sorted keys (take n xs) → (is_some (found keys k (take n xs)) ≡ true) × (at ≡ rank keys k (take n xs))
-  found_at k at is s = located_ok _ _ _ (subst (λ i. Sorted keys (take i xs) → Ok at ≡ located keys k (take i xs)) level is s)
+  found_at : (k : K) (at : ℕ) → Found k at → (is_some (found keys k (take n xs)) ≡ true) × (at ≡ rank keys k (take n xs))
+  found_at k at is = located_ok _ _ _ (subst (λ i. Sorted keys (take i xs) → Ok at ≡ located keys k (take i xs)) level is s)
 
-  missed_at : (k : K) (at : ℕ) → Missed k at → Sorted keys (take n xs) → (is_some (found keys k (take n xs)) ≡ false) × (at ≡ rank keys k (take n xs))
-  missed_at k at is s = located_err _ _ _ (subst (λ i. Sorted keys (take i xs) → Err at ≡ located keys k (take i xs)) level is s)
+  missed_at : (k : K) (at : ℕ) → Missed k at → (is_some (found keys k (take n xs)) ≡ false) × (at ≡ rank keys k (take n xs))
+  missed_at k at is = located_err _ _ _ (subst (λ i. Sorted keys (take i xs) → Err at ≡ located keys k (take i xs)) level is s)
 
   held_length : length (take n xs) ≡ n
   held_length = length-take-le n xs few
@@ -54,9 +54,9 @@ module _ {R K : Type 0} (keys : Keys R K) (xs : List R) (n m : ℕ) (few : n ≤
       record {
         few = simp length-set few;
         free = drop-set-lt n xs at r b;
-        room = λ s. or_left _ _ (subst (λ v. is_some (found keys v (take n xs)) ≡ true) ek (found_at k at is s).0);
-        held = λ s.
-            let f = subst (λ v. (is_some (found keys v (take n xs)) ≡ true) × (at ≡ rank keys v (take n xs))) ek (found_at k at is s) in
+        room = or_left _ _ (subst (λ v. is_some (found keys v (take n xs)) ≡ true) ek (found_at k at is).0);
+        held =
+            let f = subst (λ v. (is_some (found keys v (take n xs)) ≡ true) × (at ≡ rank keys v (take n xs))) ek (found_at k at is) in
             taken_set b ∙ ap (λ i. set (take n xs) i r) f.1 ∙ sym (stored_known keys r (take n xs) f.0);
       }
     where
@@ -72,9 +72,9 @@ module _ {R K : Type 0} (keys : Keys R K) (xs : List R) (n m : ℕ) (few : n ≤
       record {
         few = let size : length (set ys at r) ≡ length xs = length-set ys at r ∙ ap length e ∙ search (rules, places) in omega arith;
         free = ap (λ v. drop (n + 1) v) whole ∙ drop_at _ _ (n + 1) long;
-        room = λ s. or_right _ _ (lt-ltb (length (take n xs)) (length xs) (omega (arith, held_length)));
-        held = λ s.
-            let f = subst (λ v. (is_some (found keys v (take n xs)) ≡ false) × (at ≡ rank keys v (take n xs))) ek (missed_at k at is s) in
+        room = or_right _ _ (lt-ltb (length (take n xs)) (length xs) (omega (arith, held_length)));
+        held =
+            let f = subst (λ v. (is_some (found keys v (take n xs)) ≡ false) × (at ≡ rank keys v (take n xs))) ek (missed_at k at is) in
             ap (λ v. take (n + 1) v) whole ∙ take_at _ _ (n + 1) long ∙ ap (λ i. insert (take n xs) i r) f.1 ∙ sym (stored_unknown keys r (take n xs) f.0);
       }
 
@@ -82,7 +82,7 @@ module _ {R K : Type 0} (keys : Keys R K) (xs : List R) (n m : ℕ) (few : n ≤
   pub refused : (r : R) (k : K) (at : ℕ) → k ≡ keys.key r → n ≡ length xs → Missed k at → Refused keys r n xs xs
   refused r k at ek full is = record {
     same = refl;
-    full = λ s. or_from _ _ (subst (λ v. is_some (found keys v (take n xs)) ≡ false) ek (missed_at k at is s).0) (le-ltb (length (take n xs)) (length xs) (omega (arith, held_length)));
+    full = or_from _ _ (subst (λ v. is_some (found keys v (take n xs)) ≡ false) ek (missed_at k at is).0) (le-ltb (length (take n xs)) (length xs) (omega (arith, held_length)));
   }
 
   -- the record of a known key
@@ -94,10 +94,10 @@ module _ {R K : Type 0} (keys : Keys R K) (xs : List R) (n m : ℕ) (few : n ≤
       record {
         some = omega arith;
         free = ap (λ v. drop (n - 1) v) whole ∙ drop_at _ _ (n - 1) long;
-        known = λ s.
-            let f = found_at k at is s in
+        known =
+            let f = found_at k at is in
             found_known keys k (take n xs) x f.0 ∙ ap Some (ap (λ i. get_or (take n xs) i x) (sym f.1) ∙ get_or-take n xs at x b ∙ sym read);
-        held = λ s.
-            let f = found_at k at is s in
+        held =
+            let f = found_at k at is in
             ap (λ v. take (n - 1) v) whole ∙ take_at _ _ (n - 1) long ∙ ap (λ i. remove (take n xs) i) f.1 ∙ sym (taken_known keys k (take n xs) f.0);
       }

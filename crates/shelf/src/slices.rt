@@ -1,5 +1,5 @@
 // Search, insertion and removal in a slice of records.
-ghost use Rattle.std.specs.Prelude.{◌≡◌, ◌<◌, ◌≤◌, length, MatchOption, MatchResult};
+ghost use Rattle.std.specs.Prelude.{◌≡◌, ◌<◌, ◌≤◌, length, take, MatchOption, MatchResult};
 ghost use Rattle.shelf.specs.Changes.{Absent, Refused as Unmoved, Removed, Stored};
 ghost use Rattle.shelf.specs.Keys.{Sorted, found, located, rank};
 
@@ -36,7 +36,8 @@ pub(crate) fn insert<R: Record>(
     count: usize,
     item: R,
 ) -> Result<usize, ShelfRefused>
-    requires { count ≤ length records.old }
+    requires fits { count ≤ length records.old }
+    requires sorted { Sorted R.Record.keys (take count records.old) }
     ensures { MatchResult result (λ n. Stored R.Record.keys item count records.old records.new n) (λ _. Unmoved R.Record.keys item count records.old records.new) }
 {
     match search(&records[0..count], item.key()) {
@@ -57,7 +58,8 @@ pub(crate) fn insert<R: Record>(
 
 // Takes the record of a key out of the first `count`, if there is one.
 pub(crate) fn remove<R: Record>(records: &mut [R], count: usize, key: R::Key) -> Option<R>
-    requires { count ≤ length records.old }
+    requires fits { count ≤ length records.old }
+    requires sorted { Sorted R.Record.keys (take count records.old) }
     ensures { MatchOption result (Absent R.Record.keys key count records.old records.new) (λ x. Removed R.Record.keys key count records.old records.new x) }
 {
     let Ok(at) = search(&records[0..count], key) else {

@@ -1,7 +1,5 @@
-// What a shelf does. Each call on a shelf whose records are sorted leaves them sorted; a new shelf holds none.
+// What a shelf does.
 ghost use Rattle.std.specs.Prelude.{◌≡◌, ◌≤◌, [], length};
-ghost use Rattle.shelf.specs.Held.{Inserts, Removes, held, size, table};
-ghost use Rattle.shelf.specs.Keys.{Sorted, found};
 
 use super::super::record::Record;
 use super::super::refusal::ShelfRefused;
@@ -9,6 +7,9 @@ use super::super::slices;
 use super::Shelf;
 
 impl<'a, R: Record> Shelf<'a, R> {
+    ghost use Rattle.shelf.specs.Held.{Inserts, Removes, held, size, table};
+    ghost use Rattle.shelf.specs.Keys.{found};
+
     // An empty shelf over the caller's records.
     pub fn over(records: &'a mut [R]) -> Shelf<'a, R>
         ensures held { held result ≡ [] }
@@ -17,12 +18,19 @@ impl<'a, R: Record> Shelf<'a, R> {
         Shelf { records, count: 0 }
     }
 
+    // The records that are held.
+    fn held(&self) -> &[R]
+        ensures { result.now ≡ held self.now }
+    {
+        &self.records[..self.count]
+    }
+
     // How many records are held.
     pub fn len(&self) -> usize
         ensures is { result ≡ length (held self.now) }
         ensures within { result ≤ size self.now }
     {
-        self.count.min(self.size())
+        self.held().len()
     }
 
     // How many records the table has.
@@ -34,33 +42,26 @@ impl<'a, R: Record> Shelf<'a, R> {
 
     // The record of a key, if there is one.
     pub fn find(&self, key: R::Key) -> Option<R>
-        ensures { Sorted R.Record.keys (held self.now) → result ≡ found R.Record.keys key (held self.now) }
+        ensures { result ≡ found R.Record.keys key (held self.now) }
     {
-        let count = self.len();
-        slices::find(&self.records[0..count], key)
+        slices::find(self.held(), key)
     }
 
     // Gives a record the place of its key, over that of the same key if there is one.
     pub fn insert(&mut self, item: R) -> Result<(), ShelfRefused>
-        ensures { Inserts R.Record.keys item self.old self.new result }
+        ensures { Inserts item self.old self.new result }
     {
-        let count = self.len();
-        self.count = slices::insert(self.records, count, item)?;
+        self.count = slices::insert(self.records, self.count, item)?;
         Ok(())
     }
 
     // Takes out the record of a key, if there is one, and answers it.
     pub fn remove(&mut self, key: R::Key) -> Option<R>
-        ensures { Removes R.Record.keys key self.old self.new result }
+        ensures { Removes key self.old self.new result }
     {
-        let count = self.len();
-        match slices::remove(self.records, count, key) {
-            Some(item) => {
-                self.count = count - 1;
-                Some(item)
-            }
-            None => None,
-        }
+        let item = slices::remove(self.records, self.count, key)?;
+        self.count -= 1;
+        Some(item)
     }
 
     // Holds none: every record is free, and as it was.

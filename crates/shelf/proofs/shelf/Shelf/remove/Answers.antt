@@ -1,9 +1,12 @@
-use Rattle.std.proofs.Common.{refl}
-use Rattle.shelf.proofs.Moving.{went_out, was_absent}
+use Rattle.std.proofs.Common.{refl, arith, rules}
+use Rattle.shelf.proofs.Moving.{left_in_order, went_out, was_absent}
 use Rattle.shelf.proofs.shelf.Shelf.remove.Goals as goal
 
-pub returns-in-Some : goal.returns-in-Some
-returns-in-Some g c = went_out g.R.Record.keys c.args.self.now c.len-count.result c.len-count.ensures.is g.met.R.Record.total c.args.key c.in-Some.item c.remove.auto.records refl c.in-Some.ensures
+pub invariant_of-self-2 : goal.invariant_of-self-2
+invariant_of-self-2 g c = record { fits = omega (arith, c.remove.auto.records, c.args.self.now.fits); sorted = left_in_order g.R.Record.keys g.met.R.Record.total c.args.self.now.count c.args.self.now.records.now c.remove.new.records c.args.self.now.sorted c.args.key c.in_ok-item.item c.in_ok-item.ensures }
 
-pub returns-in-None : goal.returns-in-None
-returns-in-None g c = was_absent g.R.Record.keys c.args.self.now c.len-count.result c.len-count.ensures.is c.args.key refl c.in-None.ensures
+pub returns : goal.returns
+returns g c = went_out c.args.self.now c.args.key c.in_ok-item.item c.remove.auto.records refl c.in_ok-item.ensures
+
+pub returns-in_err-item : goal.returns-in_err-item
+returns-in_err-item g c = was_absent c.args.self.now c.args.key c.from_residual.result (search rules) refl c.in_err-item.ensures
