@@ -1,6 +1,5 @@
 -- What a write into an area's bytes does to its board.
 use Rattle.std.proofs.Common.{◌≡◌, ℕ, ◌+◌, ◌^◌, ◌<◌, ◌≤◌, true, false, cond, ◌≢◌, ◌⊎◌, List, length, get_or, drop, set, Some, Option, sym, ap, ◌∙◌, subst, inl, inr, arith, length-set, get_or-set_other, get_or-set_same}
-use Rattle.std.proofs.lemmas.Nat.{mul-le}
 use Rattle.std.proofs.lemmas.List.{drop-set-lt}
 use Rattle.std.proofs.lemmas.Bool.{cond-true, cond-false, cases_eq, cases_Bool}
 use Rattle.plane.specs.declared.cell.Cell.{Cell}
@@ -13,11 +12,11 @@ use Rattle.canvas.proofs.Tallies.{tally_le, tally_change, tally_room, counts}
 use Rattle.dense.specs.declared.area.Area.{Area}
 use Rattle.dense.specs.Area.{covers, place, size, area_board, Inked, inked}
 use Rattle.dense.specs.AreaLaws.{cell_at, cell_of, place_below, ink_in, ink_out}
-use Rattle.dense.specs.Grids.{place_if}
+use Rattle.dense.specs.Area.{place_if}
 use Rattle.dense.proofs.Places.{covered}
 
-pub few_held : (a : Area) (bytes : List ℕ) (n : ℕ) → a.width < 2 ^ 16 → a.height < 2 ^ 16 → n ≡ inked a bytes → n + 1 < 2 ^ 32
-few_held a bytes n w h c = omega (arith, tally_le (λ i. get_or bytes i 0) (size a), mul-le a.width a.height 65535 65535 (omega arith) (omega arith))
+pub few_held : (a : Area) (bytes : List ℕ) (n : ℕ) → size a + 1 < 2 ^ 32 → n ≡ inked a bytes → n + 1 < 2 ^ 32
+few_held a bytes n few c = omega (arith, tally_le (λ i. get_or bytes i 0) (size a))
 
 module _ (a : Area) (bytes : List ℕ) (n : ℕ) where
   abbrev here : Board
@@ -88,7 +87,7 @@ pub writes : (a : Area) (bytes : List ℕ) (n : ℕ) (p : Cell) (ink m i : ℕ) 
 writes a bytes n p ink m i long small counted low e =
     let s = covered a p i e in
     let t : covers a p ≡ true = s.0 in
-    subst (λ k. m ≡ held_after (get_or bytes k 0) ink n → Written a bytes n p ink m k) (sym s.1) (λ h. record {
+    subst (λ k. m ≡ held_after (get_or bytes k 0) ink n → Written a bytes n p ink m k) s.1 (λ h. record {
       takes = takes a bytes n p ink low t counted;
       board = board_after a bytes n p ink t long m h;
       long = simp length-set long;

@@ -3,7 +3,7 @@
 --     covers    the area has the cell
 --     place     where the cell's byte is, row by row
 --     size      how many cells the area has
-use Rattle.std.specs.Prelude.{ℕ, ◌+◌, ◌*◌, ◌<◌, ◌≤◌, Bool, cond, ◌&&◌, List, ℤ, pos, ◌+ℤ◌, ◌-ℤ◌, int_le, int_lt, slice_index, unsigned_abs}
+use Rattle.std.specs.Prelude.{ℕ, ◌+◌, ◌*◌, ◌<◌, ◌≤◌, Bool, cond, ◌&&◌, List, ℤ, pos, ◌+ℤ◌, ◌-ℤ◌, Some, None, Option, int_le, int_lt, slice_index, unsigned_abs}
 use Rattle.plane.specs.declared.cell.Cell.{Cell}
 use Rattle.dense.specs.declared.area.Area.{Area}
 use Rattle.canvas.specs.Board.{Board}
@@ -20,6 +20,14 @@ place a p = unsigned_abs (p.y -ℤ a.y) * a.width + unsigned_abs (p.x -ℤ a.x)
 
 abbrev pub size : Area → ℕ
 size a = a.width * a.height
+
+-- how far x is from the first of n, if it is one of them
+abbrev pub offset_if : ℤ → ℕ → ℤ → Option ℕ
+offset_if from n x = cond (spans from n x) (Some (unsigned_abs (x -ℤ from))) None
+
+-- the place of a cell, if the area has it
+abbrev pub place_if : Area → Cell → Option ℕ
+place_if a p = cond (covers a p) (Some (place a p)) None
 
 -- the board of a byte for each cell of the area
 abbrev pub area_board : Area → List ℕ → ℕ → Board

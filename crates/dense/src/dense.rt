@@ -1,15 +1,18 @@
 // The dense canvas.
-ghost use Rattle.dense.specs.Grids.{Counted, Long, Small};
+ghost use Rattle.std.specs.Prelude.{◌≡◌, ◌≤◌, length};
+ghost use Rattle.dense.specs.Area.{Inked, inked, size};
 
-use super::grid::Grid;
+use super::area::Area;
 
-// A canvas of a byte for each cell of an area, in the caller's memory: the bytes suffice for the area, each is an ink, and `held` of them are not 0.
+// A canvas of a byte for each cell of an area, row by row, in the caller's memory: the bytes suffice for the area, each is an ink, and `held` of them are not 0. Later bytes belong to no cell.
 #[derive(Drop)]
 pub struct DenseCanvas<'a> {
-    grid: Grid<'a>,
-    ghost long: { Long grid },
-    ghost small: { Small grid },
-    ghost counted: { Counted grid },
+    bytes: &'a mut [u8],
+    area: Area,
+    held: u32,
+    ghost long: { size area ≤ length bytes.now },
+    ghost small: { Inked area bytes.now },
+    ghost counted: { held ≡ inked area bytes.now },
 }
 
 pub mod holds;

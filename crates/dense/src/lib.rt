@@ -3,4 +3,3 @@
 
 pub mod area;
 pub mod dense;
-pub mod grid;
