@@ -1,3 +1,4 @@
+pub mod Ordering
 pub mod Ranks
 pub mod Finds
 pub mod Shifts
