@@ -1,32 +1,29 @@
 -- The laws of the book of a list of dye records.
-use Rattle.std.proofs.Common.{◌≡◌, ℕ, ◌<◌, ◌≤◌, true, List, length, is_some, Some, None, Option, sym, refl, ap, ◌∙◌, subst, arith}
+use Rattle.std.proofs.Common.{◌≡◌, ℕ, ◌<◌, ◌≤◌, true, List, length, is_some, Some, None, Option, sym, refl, ap, ◌∙◌, subst, arith, length-take}
 use Rattle.std.specs.List.{list_all}
-use Rattle.std.proofs.lemmas.Bool.{and_parts, false≢true}
-use Rattle.shelf.specs.declared.shelf.Shelf.{Shelf}
+use Rattle.std.proofs.lemmas.Bool.{and_parts}
 use Rattle.shelf.specs.Held.{table, held, size}
 use Rattle.shelf.specs.Keys.{Sorted, found}
-use Rattle.shelf.proofs.Moving.{held_most}
 use Rattle.shelf.proofs.Lookups.{found_is, all_found}
 use Rattle.dyes.specs.declared.name.DyeName.{DyeName}
 use Rattle.dyes.specs.declared.record.DyeRecord.{DyeRecord}
+use Rattle.dyes.specs.declared.book.DyeBook.{DyeBook}
 use Rattle.dyes.specs.Book.{BookLaws}
+use Rattle.dyes.specs.Dyes.{dye_book}
 use Rattle.dyes.specs.Inks.{by_ink, among as among-test, apart as apart-test, Numbered, Each}
 use Rattle.dyes.specs.Records.{dye_keys}
-use Rattle.dyes.specs.Shelves.{ink_in, records_book, shelf_book}
+use Rattle.dyes.specs.Shelves.{ink_in, records_book}
 use Rattle.dyes.proofs.Numbers.{Among, all_among, all_by_ink, by_ink_is}
 use Rattle.dyes.specs.Ordering.{names_ordered}
 
 -- the record behind an ink
 behind : (o : Option DyeRecord) (k : ℕ) → ink_in o ≡ Some k → (r : DyeRecord) × (o ≡ Some r) × (r.ink ≡ k)
 behind (Some r) k h = (r, refl, cc)
-behind None k h = absurd (never h)
-  where
-    never : ◌≡◌ {A = Option ℕ} None (Some k) → ⊥
-    never e = let z : ◌≡◌ {A = ℕ} 0 1 = cc in omega arith
+behind None k h = cc
 
 some_is : (o : Option DyeRecord) → is_some o ≡ true → (r : DyeRecord) × (o ≡ Some r)
 some_is (Some r) h = (r, refl)
-some_is None h = absurd (false≢true h)
+some_is None h = cc
 
 same_record : (o : Option DyeRecord) (r s : DyeRecord) → o ≡ Some r → o ≡ Some s → r ≡ s
 same_record o r s e f = cc
@@ -60,6 +57,6 @@ book_laws rs n s h each few room = record {
         let i = by_ink_is (λ r. found dye_keys r.name rs ≡ Some r) k rs b.0 (all_found dye_keys names_ordered rs s) b.1 in
         (b.0.name, ap ink_in i.1 ∙ ap (λ j. Some j) i.0)
 
--- the laws of the book of a shelf
-pub shelf_laws : (d : Shelf DyeRecord) → Sorted dye_keys (held d) → Numbered (held d) → Each (held d) → length (held d) ≤ 15 → BookLaws (shelf_book d)
-shelf_laws d s h e f = book_laws (held d) (size d) s h e f (held_most d.count (table d))
+-- the laws of the book that a dye book holds
+pub dye_laws : (d : DyeBook) → BookLaws (dye_book d)
+dye_laws d = book_laws (held d.shelf) (size d.shelf) d.shelf.sorted d.numbered d.each d.few (omega (arith, d.shelf.fits, length-take d.shelf.count (table d.shelf)))

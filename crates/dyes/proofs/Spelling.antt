@@ -1,62 +1,13 @@
--- A name is spelled byte by byte: what is written so far, and when a text is refused.
-use Rattle.std.proofs.Common.{◌≡◌, ℕ, zero, suc, ◌+◌, ◌-◌, ◌<◌, ◌≤◌, Bool, true, false, cond, ◌&&◌, ltb, leb, ◌⊎◌, List, [], ◌∷◌, ◌++◌, length, get_or, take, set, replicate, Ok, Err, sym, refl, ap, ◌∙◌, subst, ap₂, inl, inr, arith, rules}
+-- A name is its text, filled up, and filling up keeps the order.
+use Rattle.std.proofs.Common.{◌≡◌, ℕ, zero, suc, ◌-◌, ◌<◌, ◌≤◌, true, false, cond, ◌&&◌, ltb, leb, List, [], ◌∷◌, ◌++◌, length, replicate, ap, ◌∙◌, ap₂, arith}
 use Rattle.std.specs.List.{list_all, AllByRecursion as All}
-use Rattle.std.proofs.lemmas.List.{places, same_lists, get_or-set_same, take_all}
-use Rattle.std.proofs.lemmas.Bool.{cond-true, cond-false, cases_eq, and_parts, and_from, and_left, and_right, le-leb, lt-leb, leb-true, lt-ltb, le-ltb}
-use Rattle.dyes.specs.declared.name.DyeName.{DyeName}
-use Rattle.dyes.specs.declared.refusal.DyeRefused.TheVariants.{Malformed}
-use Rattle.dyes.specs.Names.{letter, well_formed, spelled, lexical, TextsOrdered}
+use Rattle.std.proofs.lemmas.Bool.{cond-true, cond-false, and_parts, le-leb, leb-true, lt-ltb, le-ltb}
+use Rattle.dyes.specs.Names.{letter, well_formed, lexical, TextsOrdered}
 use Rattle.dyes.specs.Lexical.{lexical_irreflexive}
 
--- the first i bytes of a text, filled up
-abbrev pub so_far : List ℕ → ℕ → List ℕ
-so_far text i = take i text ++ replicate (8 - i) 0
-
-pub next_letter : (text : List ℕ) (i : ℕ) → i < length text → length text ≤ 8 → set (so_far text i) i (get_or text i 0) ≡ so_far text (i + 1)
-next_letter text i a b = same_lists _ _ (search (rules, places)) (λ k d h. let e = cases_eq k i in grind (arith, places, get_or-set_same))
-
--- the test of a front that grows by a letter
-pub letters_more : (p : ℕ → Bool) (xs : List ℕ) (i : ℕ) → i < length xs → list_all p (take i xs) ≡ true → p (get_or xs i 0) ≡ true → list_all p (take (i + 1) xs) ≡ true
-letters_more p xs i a h k = subst (λ n. list_all p (take n xs) ≡ true) (suc_is i) (go xs i a h k)
-  where
-    suc_is : (n : ℕ) → suc n ≡ n + 1
-    suc_is n = omega arith
-
-    go : (xs : List ℕ) (i : ℕ) → i < length xs → list_all p (take i xs) ≡ true → p (get_or xs i 0) ≡ true → list_all p (take (suc i) xs) ≡ true
-    go [] i a h k = refl
-    go (x ∷ xs) zero a h k = and_from _ _ k refl
-    go (x ∷ xs) (suc i) a h k =
-        let q = and_parts (p x) (list_all p (take i xs)) h in
-        and_from _ _ q.0 (go xs i (omega arith) q.1 k)
-
--- one byte that fails
-pub letters_fail : (p : ℕ → Bool) (xs : List ℕ) (i : ℕ) → i < length xs → p (get_or xs i 0) ≡ false → list_all p xs ≡ false
-letters_fail p [] i a h = absurd (none i a)
-  where
-    none : (i : ℕ) → i < 0 → ⊥
-    none i a = omega arith
-letters_fail p (x ∷ xs) zero a h = and_left _ _ h
-letters_fail p (x ∷ xs) (suc i) a h = and_right (p x) _ (letters_fail p xs i (omega arith) h)
-
-pub refused_letter : (text : List ℕ) (i : ℕ) → i < length text → letter (get_or text i 0) ≡ false → Err Malformed ≡ spelled text
-refused_letter text i a h = sym (cond-false (well_formed text) _ _ (and_right (leb 1 (length text)) _ (and_right (leb (length text) 8) _ (letters_fail letter text i a h))))
-
-pub not_letter : (b : ℕ) → (b < 97) ⊎ (122 < b) → letter b ≡ false
-not_letter b (inl l) = and_left _ _ (lt-leb 97 b l)
-not_letter b (inr l) = and_right (leb 97 b) _ (lt-leb b 122 l)
-
-pub is_letter : (b : ℕ) → 97 ≤ b → b ≤ 122 → letter b ≡ true
-is_letter b l m = and_from _ _ (le-leb 97 b l) (le-leb b 122 m)
-
-pub named : (text : List ℕ) (i : ℕ) (letters : List ℕ) → 1 ≤ length text → length text ≤ 8 → length text ≤ i → i ≤ length text → letters ≡ so_far text i → list_all letter (take i text) ≡ true → Ok (record { letters = letters }) ≡ spelled text
-named text i letters a b l m e h =
-    let whole : take i text ≡ text = take_all i text l in
-    let same : i ≡ length text = omega arith in
-    ap (λ (ls : List ℕ). Ok (name ls)) (e ∙ ap (λ (xs : List ℕ). xs ++ replicate (8 - i) 0) whole ∙ ap (λ n. text ++ replicate (8 - n) 0) same)
-    ∙ sym (cond-true (well_formed text) _ _ (and_from _ _ (le-leb 1 (length text) a) (and_from _ _ (le-leb (length text) 8 b) (subst (λ xs. list_all letter xs ≡ true) whole h))))
-  where
-    name : List ℕ → DyeName
-    name ls = record { letters = ls }
+-- a text of a name's length is well formed if all its bytes are letters
+pub is_well_formed : (text : List ℕ) → 1 ≤ length text → length text ≤ 8 → well_formed text ≡ list_all letter text
+is_well_formed text a b = ap (λ t. t && (leb (length text) 8 && list_all letter text)) (le-leb 1 (length text) a) ∙ ap (λ t. t && list_all letter text) (le-leb (length text) 8 b)
 
 -- ---- filling up keeps the order: 0 is below every letter, and an end below every byte
 

@@ -1,7 +1,5 @@
--- The book of a shelf of dye records.
+-- The book of a list of dye records.
 use Rattle.std.specs.Prelude.{ℕ, min, List, length, Some, None, Option}
-use Rattle.shelf.specs.declared.shelf.Shelf.{Shelf}
-use Rattle.shelf.specs.Held.{held, size}
 use Rattle.shelf.specs.Keys.{found}
 use Rattle.dyes.specs.declared.record.DyeRecord.{DyeRecord}
 use Rattle.dyes.specs.Book.{Book}
@@ -14,6 +12,3 @@ ink_in None = None
 -- the book of the records rs, on a table of n
 abbrev pub records_book : List DyeRecord → ℕ → Book
 records_book rs n = record { ink = λ m. ink_in (found dye_keys m rs); count = length rs; room = min n 15 }
-
-abbrev pub shelf_book : Shelf DyeRecord → Book
-shelf_book s = records_book (held s) (size s)

@@ -1,9 +1,7 @@
 // The dye book.
 ghost use Rattle.std.specs.Prelude.{◌≤◌, length};
 ghost use Rattle.shelf.specs.Held.{held};
-ghost use Rattle.shelf.specs.Keys.{Sorted};
 ghost use Rattle.dyes.specs.Inks.{Each, Numbered};
-ghost use Rattle.dyes.specs.Records.{dye_keys};
 
 use super::record::DyeRecord;
 use shelf::shelf::Shelf;
@@ -12,11 +10,9 @@ use shelf::shelf::Shelf;
 #[derive(Drop)]
 pub struct DyeBook<'a> {
     shelf: Shelf<'a, DyeRecord>,
-    ghost sorted: { Sorted dye_keys (held shelf) },
     ghost numbered: { Numbered (held shelf) },
     ghost each: { Each (held shelf) },
     ghost few: { length (held shelf) ≤ 15 },
 }
 
 pub mod calls;
-pub mod inks;

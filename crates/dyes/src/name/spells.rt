@@ -1,9 +1,10 @@
 // How names are spelled, and their order.
 ghost use Rattle.std.specs.Prelude.{◌≡◌};
-ghost use Rattle.dyes.specs.Names.{TextsOrdered, blank_name, lexical, spelled};
+ghost use Rattle.dyes.specs.Names.{TextsOrdered, blank_name, lexical, spelled, well_formed};
 
 use super::super::refusal::DyeRefused;
 use super::DyeName;
+use std::str::FromStr;
 
 impl DyeName {
     // No name: every byte is 0.
@@ -13,38 +14,35 @@ impl DyeName {
         DyeName { letters: [0; 8] }
     }
 
-    // Whether the name is before the other by its bytes. As 0 is below every letter, a name is before its longer continuations.
+    // Whether the name is before the other.
     pub fn precedes(self, other: DyeName) -> bool
         ensures is { result ≡ lexical self.letters other.letters }
         ensures texts { TextsOrdered }
     {
-        for i in 0..8 {
-            if self.letters[i] < other.letters[i] {
-                return true;
-            }
-            if other.letters[i] < self.letters[i] {
-                return false;
-            }
-        }
-        false
+        self < other
     }
+}
 
-    // The name that a text spells.
-    pub fn spelled(text: &str) -> Result<DyeName, DyeRefused>
-        ensures { result ≡ spelled text.now }
-    {
+// Whether the bytes are one to eight letters.
+fn is_well_formed(bytes: &[u8]) -> bool
+    ensures { result ≡ well_formed bytes.now }
+{
+    !bytes.is_empty() && bytes.len() <= 8 && bytes.iter().all(|b| b.is_ascii_lowercase())
+}
+
+// The name that a text spells.
+impl FromStr for DyeName {
+    type Err = DyeRefused;
+
+    ghost from_str_gives = { λ text name. name ≡ spelled text };
+
+    fn from_str(text: &str) -> Result<DyeName, DyeRefused> {
         let bytes = text.as_bytes();
-        if bytes.len() < 1 || bytes.len() > 8 {
+        if !is_well_formed(bytes) {
             return Err(DyeRefused::Malformed);
         }
-        let mut letters = [0u8; 8];
-        for i in 0..bytes.len() {
-            let letter = bytes[i];
-            if letter < b'a' || letter > b'z' {
-                return Err(DyeRefused::Malformed);
-            }
-            letters[i] = letter;
-        }
+        let mut letters = [0; 8];
+        letters[..bytes.len()].copy_from_slice(bytes);
         Ok(DyeName { letters })
     }
 }
