@@ -7,9 +7,9 @@ pub fn counterpart(ink: u8) -> u8
     ensures is { result ≡ counterpart ink }
     ensures pairs { Pairing counterpart }
 {
-    if ink >= 1 && ink <= 14 {
-        if ink % 2 == 1 { ink + 1 } else { ink - 1 }
-    } else {
-        ink
+    match ink {
+        1..=14 if ink % 2 == 1 => ink + 1,
+        1..=14 => ink - 1,
+        _ => ink,
     }
 }

@@ -1,8 +1,7 @@
 // The sparse canvas.
 ghost use Rattle.std.specs.Prelude.{◌≡◌, ◌≤◌, true};
 ghost use Rattle.shelf.specs.Held.{held, size};
-ghost use Rattle.shelf.specs.Keys.{Sorted};
-ghost use Rattle.sparse.specs.Records.{cell_keys, sound};
+ghost use Rattle.sparse.specs.Records.{sound};
 
 use super::record::CellRecord;
 use shelf::shelf::Shelf;
@@ -11,11 +10,9 @@ use shelf::shelf::Shelf;
 #[derive(Drop)]
 pub struct SparseCanvas<'a> {
     shelf: Shelf<'a, CellRecord>,
-    ghost sorted: { Sorted cell_keys (held shelf) },
     ghost sound: { sound (held shelf) ≡ true },
     ghost few: { size shelf ≤ 65536 },
 }
 
 pub mod holds;
-pub mod inks;
 pub mod makes;

@@ -1,7 +1,8 @@
 // A sparse canvas is a canvas.
 ghost use Rattle.sparse.specs.Sparse.{sparse_board, sparse_laws};
 
-use super::{SparseCanvas, inks};
+use super::super::record::CellRecord;
+use super::SparseCanvas;
 use canvas::canvas::Canvas;
 use canvas::refusal::PutRefused;
 use plane::cell::Cell;
@@ -12,15 +13,24 @@ impl<'a> Canvas for SparseCanvas<'a> {
     ghost laws = { sparse_laws };
 
     fn look(&self, at: Cell) -> u8 {
-        inks::look(&self.shelf, at)
+        self.shelf.find(at).map_or(0, |found| found.ink)
     }
 
     fn put(&mut self, at: Cell, ink: u8) -> Result<(), PutRefused> {
-        inks::put(&mut self.shelf, at, ink)
+        if ink > 15 {
+            return Err(PutRefused::Ink);
+        }
+        let new = CellRecord::of(at, ink).ok_or(PutRefused::Frame)?;
+        if ink == 0 {
+            let _ = self.shelf.remove(at);
+        } else {
+            self.shelf.insert(new)?;
+        }
+        Ok(())
     }
 
     fn held(&self) -> u32 {
-        inks::count(&self.shelf)
+        self.shelf.len() as u32
     }
 
     fn clear(&mut self) {
