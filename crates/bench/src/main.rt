@@ -20,8 +20,8 @@ fn shuffled(i: u32) -> u32 {
 fn cell(i: u32) -> Cell {
     let k = shuffled(i);
     Cell {
-        x: (k % 256) as i64,
-        y: (k / 256 % 65_536) as i64,
+        x: i64::from(k % 256),
+        y: i64::from(k / 256 % 65_536),
     }
 }
 
@@ -38,7 +38,7 @@ fn fill<C: Canvas>(canvas: &mut C) -> u32 {
 fn total<C: Canvas>(canvas: &C) -> u64 {
     let mut sum: u64 = 0;
     for i in 0..SEATS {
-        sum = sum.saturating_add(canvas.look(cell(i)) as u64);
+        sum = sum.saturating_add(u64::from(canvas.look(cell(i))));
     }
     sum
 }

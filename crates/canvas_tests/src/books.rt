@@ -5,13 +5,9 @@ use dyes::refusal::DyeRefused;
 use std::process::Abort;
 
 // Adds each name, and expects its ink, or the number of the refusal.
-fn adds(rt: &impl Abort, book: &mut DyeBook, all: &[(&str, u8)]) {
+fn adds(rt: &impl Abort, book: &mut DyeBook, all: &[(&str, Result<u8, u8>)]) {
     for (text, expected) in all {
-        let answer = match book.add(text) {
-            Ok(ink) => ink,
-            Err(why) => why.number(),
-        };
-        assert_eq!(rt; answer, *expected);
+        assert_eq!(rt; book.add(text).map_err(|why| why.number()), *expected);
     }
 }
 
@@ -24,23 +20,23 @@ fn names(rt: HostRuntime) {
         &rt,
         &mut book,
         &[
-            ("rose", 1),
-            ("ash", 2),
-            ("rosewood", 3),
-            ("ros", 4),
-            ("rose", 1),
+            ("rose", Ok(1)),
+            ("ash", Ok(2)),
+            ("rosewood", Ok(3)),
+            ("ros", Ok(4)),
+            ("rose", Ok(1)),
         ],
     );
     adds(
         &rt,
         &mut book,
         &[
-            ("", 17),
-            ("ultramari", 17),
-            ("Ash", 17),
-            ("as h", 17),
-            ("a{", 17),
-            ("a`", 17),
+            ("", Err(17)),
+            ("ultramari", Err(17)),
+            ("Ash", Err(17)),
+            ("as h", Err(17)),
+            ("a{", Err(17)),
+            ("a`", Err(17)),
         ],
     );
     assert_eq!(rt; book.lookup("rosewood"), Some(3));
@@ -61,30 +57,34 @@ fn sixteen_names(rt: HostRuntime) {
         &rt,
         &mut book,
         &[
-            ("o", 1),
-            ("n", 2),
-            ("m", 3),
-            ("l", 4),
-            ("k", 5),
-            ("j", 6),
-            ("i", 7),
-            ("h", 8),
+            ("o", Ok(1)),
+            ("n", Ok(2)),
+            ("m", Ok(3)),
+            ("l", Ok(4)),
+            ("k", Ok(5)),
+            ("j", Ok(6)),
+            ("i", Ok(7)),
+            ("h", Ok(8)),
         ],
     );
     adds(
         &rt,
         &mut book,
         &[
-            ("g", 9),
-            ("f", 10),
-            ("e", 11),
-            ("d", 12),
-            ("c", 13),
-            ("b", 14),
-            ("a", 15),
+            ("g", Ok(9)),
+            ("f", Ok(10)),
+            ("e", Ok(11)),
+            ("d", Ok(12)),
+            ("c", Ok(13)),
+            ("b", Ok(14)),
+            ("a", Ok(15)),
         ],
     );
-    adds(&rt, &mut book, &[("p", 18), ("P", 17), ("h", 8)]);
+    adds(
+        &rt,
+        &mut book,
+        &[("p", Err(18)), ("P", Err(17)), ("h", Ok(8))],
+    );
     assert_eq!(rt; book.lookup("a"), Some(15));
     assert_eq!(rt; book.lookup("p"), None);
 }
@@ -97,11 +97,16 @@ fn small_tables(rt: HostRuntime) {
     adds(
         &rt,
         &mut book,
-        &[("zinc", 1), ("lead", 2), ("tin", 18), ("zinc", 1)],
+        &[
+            ("zinc", Ok(1)),
+            ("lead", Ok(2)),
+            ("tin", Err(18)),
+            ("zinc", Ok(1)),
+        ],
     );
     let mut none: [DyeRecord; 0] = [];
     let mut empty = DyeBook::over(&mut none);
-    adds(&rt, &mut empty, &[("zinc", 18), ("Zinc", 17)]);
+    adds(&rt, &mut empty, &[("zinc", Err(18)), ("Zinc", Err(17))]);
     assert_eq!(rt; DyeRefused::Malformed.number(), 17);
     assert_eq!(rt; DyeRefused::Full.number(), 18);
 }

@@ -9,9 +9,9 @@ use sparse::sparse::SparseCanvas;
 use std::process::Abort;
 use std::test::Fail;
 
-// A put of an ink, and the number of the refusal that is expected, or 0 for none.
+// A put of an ink, and what it should answer, with the number of a refusal.
 #[derive(Clone, Copy)]
-struct Put(i64, i64, u8, u8);
+struct Put(i64, i64, u8, Result<(), u8>);
 
 // A cell and the ink that it should have.
 #[derive(Clone, Copy)]
@@ -19,20 +19,17 @@ struct Ink(i64, i64, u8);
 
 // Puts each in turn.
 fn puts<C: Canvas>(rt: &impl Abort, canvas: &mut C, all: &[Put]) {
-    for put in all {
-        let Put(x, y, ink, expected) = *put;
-        let answer = match canvas.put(Cell { x, y }, ink) {
-            Ok(()) => 0,
-            Err(why) => why.number(),
-        };
-        assert_eq!(rt; answer, expected);
+    for &Put(x, y, ink, expected) in all {
+        assert_eq!(rt;
+            canvas.put(Cell { x, y }, ink).map_err(|why| why.number()),
+            expected
+        );
     }
 }
 
 // Looks at each.
 fn looks<C: Canvas>(rt: &impl Abort, canvas: &C, all: &[Ink]) {
-    for cell in all {
-        let Ink(x, y, ink) = *cell;
+    for &Ink(x, y, ink) in all {
         assert_eq!(rt; canvas.look(Cell { x, y }), ink);
     }
 }
@@ -47,16 +44,20 @@ fn full_sparse(rt: HostRuntime) {
     puts(
         &rt,
         &mut canvas,
-        &[Put(5, -2, 1, 0), Put(-5, 7, 2, 0), Put(5, -3, 3, 0)],
+        &[
+            Put(5, -2, 1, Ok(())),
+            Put(-5, 7, 2, Ok(())),
+            Put(5, -3, 3, Ok(())),
+        ],
     );
     puts(
         &rt,
         &mut canvas,
         &[
-            Put(0, 0, 4, 5),
-            Put(0, 0, 0, 0),
-            Put(0, 0, 16, 1),
-            Put(5, -2, 9, 0),
+            Put(0, 0, 4, Err(5)),
+            Put(0, 0, 0, Ok(())),
+            Put(0, 0, 16, Err(1)),
+            Put(5, -2, 9, Ok(())),
         ],
     );
     assert_eq!(rt; canvas.held(), 3);
@@ -68,13 +69,17 @@ fn full_sparse(rt: HostRuntime) {
     puts(
         &rt,
         &mut canvas,
-        &[Put(-5, 7, 0, 0), Put(0, 0, 4, 0), Put(-5, 7, 2, 5)],
+        &[
+            Put(-5, 7, 0, Ok(())),
+            Put(0, 0, 4, Ok(())),
+            Put(-5, 7, 2, Err(5)),
+        ],
     );
     looks(&rt, &canvas, &[Ink(-5, 7, 0), Ink(0, 0, 4)]);
     canvas.clear();
     assert_eq!(rt; canvas.held(), 0);
     looks(&rt, &canvas, &[Ink(0, 0, 0), Ink(5, -2, 0)]);
-    puts(&rt, &mut canvas, &[Put(-5, 7, 2, 0)]);
+    puts(&rt, &mut canvas, &[Put(-5, 7, 2, Ok(()))]);
 }
 
 // A dense canvas has a seat for each of its cells, and none outside its frame. Later bytes stay as they were.
@@ -86,10 +91,10 @@ fn full_dense(rt: HostRuntime) {
         &rt,
         &mut canvas,
         &[
-            Put(10, -1, 1, 0),
-            Put(11, -1, 2, 0),
-            Put(10, 0, 3, 0),
-            Put(11, 0, 15, 0),
+            Put(10, -1, 1, Ok(())),
+            Put(11, -1, 2, Ok(())),
+            Put(10, 0, 3, Ok(())),
+            Put(11, 0, 15, Ok(())),
         ],
     );
     assert_eq!(rt; canvas.held(), 4);
@@ -97,13 +102,17 @@ fn full_dense(rt: HostRuntime) {
         &rt,
         &mut canvas,
         &[
-            Put(10, 1, 1, 4),
-            Put(9, 0, 1, 4),
-            Put(12, 0, 0, 4),
-            Put(10, -2, 16, 1),
+            Put(10, 1, 1, Err(4)),
+            Put(9, 0, 1, Err(4)),
+            Put(12, 0, 0, Err(4)),
+            Put(10, -2, 16, Err(1)),
         ],
     );
-    puts(&rt, &mut canvas, &[Put(10, 0, 12, 0), Put(11, -1, 0, 0)]);
+    puts(
+        &rt,
+        &mut canvas,
+        &[Put(10, 0, 12, Ok(())), Put(11, -1, 0, Ok(()))],
+    );
     assert_eq!(rt; canvas.held(), 3);
     looks(
         &rt,
@@ -127,7 +136,7 @@ fn cleared_bytes(rt: HostRuntime) {
         let mut canvas = DenseCanvas::over(&mut bytes, 2, 0, 0);
         assert_eq!(rt; canvas.held(), 0);
         looks(&rt, &canvas, &[Ink(0, 0, 0), Ink(1, 1, 0)]);
-        puts(&rt, &mut canvas, &[Put(1, 1, 3, 0)]);
+        puts(&rt, &mut canvas, &[Put(1, 1, 3, Ok(()))]);
         canvas.clear();
         assert_eq!(rt; canvas.held(), 0);
     }
@@ -143,23 +152,26 @@ fn far_sparse(rt: HostRuntime) {
         &rt,
         &mut canvas,
         &[
-            Put(2147483647, -2147483648, 1, 0),
-            Put(-2147483648, 2147483647, 2, 0),
+            Put(2147483647, -2147483648, 1, Ok(())),
+            Put(-2147483648, 2147483647, 2, Ok(())),
         ],
     );
     puts(
         &rt,
         &mut canvas,
         &[
-            Put(2147483648, 0, 3, 4),
-            Put(-2147483649, 0, 3, 4),
-            Put(0, 2147483648, 3, 4),
+            Put(2147483648, 0, 3, Err(4)),
+            Put(-2147483649, 0, 3, Err(4)),
+            Put(0, 2147483648, 3, Err(4)),
         ],
     );
     puts(
         &rt,
         &mut canvas,
-        &[Put(0, -2147483649, 0, 4), Put(i64::MAX, i64::MIN, 3, 4)],
+        &[
+            Put(0, -2147483649, 0, Err(4)),
+            Put(i64::MAX, i64::MIN, 3, Err(4)),
+        ],
     );
     looks(
         &rt,
@@ -181,14 +193,17 @@ fn far_dense(rt: HostRuntime) {
         &rt,
         &mut canvas,
         &[
-            Put(2147483648, 2147483648, 5, 0),
-            Put(2147483649, 2147483648, 5, 4),
+            Put(2147483648, 2147483648, 5, Ok(())),
+            Put(2147483649, 2147483648, 5, Err(4)),
         ],
     );
     puts(
         &rt,
         &mut canvas,
-        &[Put(i64::MAX, i64::MAX, 5, 4), Put(i64::MIN, i64::MIN, 5, 4)],
+        &[
+            Put(i64::MAX, i64::MAX, 5, Err(4)),
+            Put(i64::MIN, i64::MIN, 5, Err(4)),
+        ],
     );
     looks(
         &rt,
@@ -205,7 +220,11 @@ fn no_memory(rt: HostRuntime) {
     puts(
         &rt,
         &mut dense,
-        &[Put(0, 0, 1, 4), Put(0, 0, 0, 4), Put(0, 0, 16, 1)],
+        &[
+            Put(0, 0, 1, Err(4)),
+            Put(0, 0, 0, Err(4)),
+            Put(0, 0, 16, Err(1)),
+        ],
     );
     assert_eq!(rt; dense.held(), 0);
     let mut records: [CellRecord; 0] = [];
@@ -213,7 +232,11 @@ fn no_memory(rt: HostRuntime) {
     puts(
         &rt,
         &mut sparse,
-        &[Put(0, 0, 1, 5), Put(0, 0, 0, 0), Put(0, 0, 16, 1)],
+        &[
+            Put(0, 0, 1, Err(5)),
+            Put(0, 0, 0, Ok(())),
+            Put(0, 0, 16, Err(1)),
+        ],
     );
     looks(&rt, &sparse, &[Ink(0, 0, 0)]);
 }
@@ -227,18 +250,30 @@ fn widths(rt: HostRuntime) {
         puts(
             &rt,
             &mut canvas,
-            &[Put(0, 127, 1, 0), Put(0, 128, 1, 4), Put(1, 0, 1, 4)],
+            &[
+                Put(0, 127, 1, Ok(())),
+                Put(0, 128, 1, Err(4)),
+                Put(1, 0, 1, Err(4)),
+            ],
         );
     }
     {
         let mut canvas = DenseCanvas::over(&mut bytes, -5, 0, 0);
-        puts(&rt, &mut canvas, &[Put(0, 127, 1, 0), Put(1, 0, 1, 4)]);
+        puts(
+            &rt,
+            &mut canvas,
+            &[Put(0, 127, 1, Ok(())), Put(1, 0, 1, Err(4))],
+        );
     }
     let mut canvas = DenseCanvas::over(&mut bytes, 129, 0, 0);
     puts(
         &rt,
         &mut canvas,
-        &[Put(127, 1, 1, 0), Put(128, 0, 1, 4), Put(0, 2, 1, 4)],
+        &[
+            Put(127, 1, 1, Ok(())),
+            Put(128, 0, 1, Err(4)),
+            Put(0, 2, 1, Err(4)),
+        ],
     );
 }
 
@@ -248,9 +283,13 @@ fn wide_table(rt: HostRuntime) -> Result<(), Fail> {
     let mut records = vec![in rt.alloc(); BLANK; 65540]?;
     let mut canvas = SparseCanvas::over(records.as_mut_slice());
     for i in 0..65536 {
-        puts(&rt, &mut canvas, &[Put(i % 256, i / 256, 3, 0)]);
+        puts(&rt, &mut canvas, &[Put(i % 256, i / 256, 3, Ok(()))]);
     }
-    puts(&rt, &mut canvas, &[Put(0, 256, 3, 5), Put(255, 255, 4, 0)]);
+    puts(
+        &rt,
+        &mut canvas,
+        &[Put(0, 256, 3, Err(5)), Put(255, 255, 4, Ok(()))],
+    );
     assert_eq!(rt; canvas.held(), 65536);
     looks(
         &rt,

@@ -1,11 +1,13 @@
 // Canvases against a plain model, on random puts and looks.
 use canvas::canvas::Canvas;
+use canvas::refusal::PutRefused;
 use dense::dense::DenseCanvas;
 use plane::cell::Cell;
 use sparse::record::CellRecord;
 use sparse::sparse::SparseCanvas;
 use std::alloc::Global;
 use std::collections::BTreeMap;
+use std::ops::RangeInclusive;
 use std::process::Abort;
 use std::test::Fail;
 
@@ -13,38 +15,33 @@ use std::test::Fail;
 #[derive(Drop)]
 struct Model {
     inks: BTreeMap<(i64, i64), u8>,
-    left: i64,
-    right: i64,
-    top: i64,
-    bottom: i64,
+    columns: RangeInclusive<i64>,
+    rows: RangeInclusive<i64>,
     seats: usize,
 }
 
 impl Model {
     fn look(&self, at: Cell) -> u8 {
-        match self.inks.get(&(at.y, at.x)) {
-            Some(ink) => *ink,
-            None => 0,
-        }
+        self.inks.get(&(at.y, at.x)).copied().unwrap_or(0)
     }
 
-    // Puts an ink, and answers the number of the refusal, or 0.
-    fn put(&mut self, at: Cell, ink: u8) -> Result<u8, Fail> {
+    // Puts an ink, and answers as a canvas does.
+    fn put(&mut self, at: Cell, ink: u8) -> Result<Result<(), PutRefused>, Fail> {
         if ink > 15 {
-            return Ok(1);
+            return Ok(Err(PutRefused::Ink));
         }
-        if at.x < self.left || at.x > self.right || at.y < self.top || at.y > self.bottom {
-            return Ok(4);
+        if !self.columns.contains(&at.x) || !self.rows.contains(&at.y) {
+            return Ok(Err(PutRefused::Frame));
         }
         if ink == 0 {
             let _ = self.inks.remove(&(at.y, at.x));
-            return Ok(0);
+            return Ok(Ok(()));
         }
         if self.look(at) == 0 && self.inks.len() >= self.seats {
-            return Ok(5);
+            return Ok(Err(PutRefused::Seats));
         }
         let _ = self.inks.insert((at.y, at.x), ink)?;
-        Ok(0)
+        Ok(Ok(()))
     }
 }
 
@@ -62,20 +59,18 @@ fn step<C: Canvas>(
     seed: u64,
 ) -> Result<(), Fail> {
     let x = model
-        .left
+        .columns
+        .start()
         .wrapping_add((seed >> 20) as i64 % 40)
         .wrapping_sub(2);
     let y = model
-        .top
+        .rows
+        .start()
         .wrapping_add((seed >> 30) as i64 % 40)
         .wrapping_sub(2);
     let ink = ((seed >> 40) % 17) as u8;
     let at = Cell { x, y };
-    let answer = match canvas.put(at, ink) {
-        Ok(()) => 0,
-        Err(why) => why.number(),
-    };
-    assert_eq!(rt; answer, model.put(at, ink)?);
+    assert_eq!(rt; canvas.put(at, ink), model.put(at, ink)?);
     let other = Cell { x: y, y: x };
     assert_eq!(rt; canvas.look(at), model.look(at));
     assert_eq!(rt; canvas.look(other), model.look(other));
@@ -103,10 +98,8 @@ fn dense_like_a_map(rt: HostRuntime) -> Result<(), Fail> {
     let mut canvas = DenseCanvas::over(&mut bytes, 31, -7, 12);
     let mut model = Model {
         inks: BTreeMap::new(rt.alloc()),
-        left: -7,
-        right: 23,
-        top: 12,
-        bottom: 43,
+        columns: -7..=23,
+        rows: 12..=43,
         seats: 992,
     };
     compared(&rt, &mut canvas, &mut model, 12000)
@@ -118,10 +111,8 @@ fn sparse_like_a_map(rt: HostRuntime) -> Result<(), Fail> {
     let mut canvas = SparseCanvas::over(&mut records);
     let mut model = Model {
         inks: BTreeMap::new(rt.alloc()),
-        left: -2147483648,
-        right: 2147483647,
-        top: -2147483648,
-        bottom: 2147483647,
+        columns: -2147483648..=2147483647,
+        rows: -2147483648..=2147483647,
         seats: 500,
     };
     compared(&rt, &mut canvas, &mut model, 12000)

@@ -1,9 +1,8 @@
--- The number of what a put answers.
+-- What a put answers, with the number of a refusal.
 use Rattle.std.specs.Prelude.{ℕ, Ok, Err, Result}
 use Rattle.canvas.specs.declared.refusal.PutRefused.{PutRefused}
 use Rattle.canvas.specs.Refusals.{put_number}
 
--- 0 where nothing is refused
-abbrev pub number_of : Result (Unit {0}) PutRefused → ℕ
-number_of (Ok x) = 0
-number_of (Err why) = put_number why
+abbrev pub numbered : Result (Unit {0}) PutRefused → Result (Unit {0}) ℕ
+numbered (Ok x) = Ok x
+numbered (Err why) = Err (put_number why)

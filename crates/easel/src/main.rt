@@ -24,8 +24,8 @@ fn put_on<C: Canvas>(
     let y = request.at.y;
     let ink = request.ink;
     match trial::answer(canvas, request) {
-        0 => println!(rt; "{name} takes ink {ink} at {x} {y}"),
-        why => println!(rt; "{name} refuses ink {ink} at {x} {y} with {why}"),
+        Ok(()) => println!(rt; "{name} takes ink {ink} at {x} {y}"),
+        Err(why) => println!(rt; "{name} refuses ink {ink} at {x} {y} with {why}"),
     }
 }
 

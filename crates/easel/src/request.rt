@@ -15,13 +15,13 @@ fn read(line: &str) -> Option<Request> {
     let x = words.next()?.parse::<i64>().ok()?;
     let y = words.next()?.parse::<i64>().ok()?;
     let ink = words.next()?.parse::<u8>().ok()?;
-    match words.next() {
-        Some(_) => None,
-        None => Some(Request {
-            at: Cell { x, y },
-            ink,
-        }),
+    if words.next().is_some() {
+        return None;
     }
+    Some(Request {
+        at: Cell { x, y },
+        ink,
+    })
 }
 
 // A line that is no request.
@@ -32,9 +32,6 @@ impl FromStr for Request {
     type Err = Misread;
 
     fn from_str(line: &str) -> Result<Request, Misread> {
-        match read(line) {
-            Some(request) => Ok(request),
-            None => Err(Misread),
-        }
+        read(line).ok_or(Misread)
     }
 }

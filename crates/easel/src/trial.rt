@@ -1,20 +1,19 @@
 // What two canvases are asked.
 ghost use Rattle.std.specs.Prelude.{◌≡◌, not, ◌==◌};
 ghost use Rattle.canvas.specs.Board.{put_answer};
-ghost use Rattle.easel.specs.Trial.{number_of};
+ghost use Rattle.easel.specs.Trial.{numbered};
 
 use super::request::Request;
 use canvas::canvas::Canvas;
 use plane::cell::Cell;
 
-// Puts the ink, and answers the number of the refusal, or 0.
-pub fn answer<C: Canvas>(canvas: &mut C, request: Request) -> u8
-    ensures { result ≡ number_of (put_answer (C.Canvas.board canvas.old) request.at request.ink) }
+// Puts the ink, and answers the number of the refusal, if it is refused.
+pub fn answer<C: Canvas>(canvas: &mut C, request: Request) -> Result<(), u8>
+    ensures { result ≡ numbered (put_answer (C.Canvas.board canvas.old) request.at request.ink) }
 {
-    match canvas.put(request.at, request.ink) {
-        Ok(()) => 0,
-        Err(why) => why.number(),
-    }
+    canvas
+        .put(request.at, request.ink)
+        .map_err(|why| why.number())
 }
 
 // Whether two canvases have different inks at a cell.
