@@ -2,6 +2,7 @@
 use super::fields::{Fields, Read, Target};
 use super::trouble::Trouble;
 use history::calls::{Drawing, Look, Window};
+use plane::rectangle::Rectangle;
 
 #[derive(Clone, Copy)]
 pub enum Call {
@@ -24,12 +25,13 @@ pub trait ReadCall {
     fn window(&mut self) -> Result<Call, Trouble>;
 }
 
-// The most bytes that a picture with these sides takes: 15 before the cells, and three for each.
-fn picture_size(width: i64, height: i64) -> usize {
-    if width < 1 || width > 128 || height < 1 || height > 128 {
-        return 0;
+// The most bytes that a picture of a rectangle takes: 15 before the cells, and three for each.
+fn picture_size(rectangle: Rectangle) -> usize {
+    let side = |n: i64| u8::try_from(n).ok().filter(|side| (1..=128).contains(side));
+    match (side(rectangle.width), side(rectangle.height)) {
+        (Some(width), Some(height)) => 15 + 3 * usize::from(width) * usize::from(height),
+        _ => 0,
     }
-    15 + 3 * (width as usize) * (height as usize)
 }
 
 impl ReadCall for Fields<'_> {
@@ -52,27 +54,18 @@ impl ReadCall for Fields<'_> {
     }
 
     fn window(&mut self) -> Result<Call, Trouble> {
-        let corner = self.cell()?;
-        let width = self.number()?;
-        let height = self.number()?;
+        let rectangle = self.rectangle()?;
         match self.target()? {
             Target::File => Ok(Call::Picture(Window {
-                corner,
-                width,
-                height,
+                rectangle,
                 palette: 48,
-                output: picture_size(width, height),
+                output: picture_size(rectangle),
             })),
-            Target::Palette(palette) => {
-                let output = self.output()?;
-                Ok(Call::Look(Look::Window(Window {
-                    corner,
-                    width,
-                    height,
-                    palette,
-                    output,
-                })))
-            }
+            Target::Palette(palette) => Ok(Call::Look(Look::Window(Window {
+                rectangle,
+                palette,
+                output: self.output()?,
+            }))),
         }
     }
 }

@@ -2,11 +2,13 @@
 use super::call::{Call, ReadCall};
 use super::fields::{Fields, Read, Word};
 use super::memory::Memory;
-use super::symmetry::{Description, ReadSymmetry};
+use super::symmetry::{Description, End, ReadSymmetry};
 use super::trouble::{Fault, Trouble, Wanted};
 use groups::rules::GroupRefused;
 use groups::tabled::Tabled;
+use lattice::vectors::Vectors;
 use plane::cell::Cell;
+use plane::rectangle::Rectangle;
 use std::alloc::Global;
 
 // A symmetry that is refused is asked for all the same: the refusal is the answer.
@@ -25,8 +27,8 @@ pub enum Command {
 pub enum Question {
     Make(Description),
     Fold(Description, Cell),
-    Reduce { ax: i64, ay: i64, bx: i64, by: i64 },
-    Classes(Description, Cell, i64, i64),
+    Reduce(Vectors),
+    Classes(Description, Rectangle),
     Card(Result<Tabled, GroupRefused>),
     Cells { from: Cell, to: Cell },
     Help,
@@ -47,15 +49,13 @@ pub trait ReadLine: Sized {
 }
 
 fn read_classes(fields: &mut Fields, heap: Global) -> Result<Question, Trouble> {
-    let symmetry = fields.symmetry(heap, true)?;
-    let corner = fields.cell()?;
-    let width = fields.number()?;
-    let height = fields.number()?;
-    Ok(Question::Classes(symmetry, corner, width, height))
+    let symmetry = fields.symmetry(heap, End::Colon)?;
+    let rectangle = fields.rectangle()?;
+    Ok(Question::Classes(symmetry, rectangle))
 }
 
 fn read_fold(fields: &mut Fields, heap: Global) -> Result<Question, Trouble> {
-    let symmetry = fields.symmetry(heap, true)?;
+    let symmetry = fields.symmetry(heap, End::Colon)?;
     let at = fields.cell()?;
     Ok(Question::Fold(symmetry, at))
 }
@@ -66,19 +66,11 @@ fn read_cells(fields: &mut Fields) -> Result<Question, Trouble> {
     Ok(Question::Cells { from, to })
 }
 
-fn read_reduce(fields: &mut Fields) -> Result<Question, Trouble> {
-    let ax = fields.number()?;
-    let ay = fields.number()?;
-    let bx = fields.number()?;
-    let by = fields.number()?;
-    Ok(Question::Reduce { ax, ay, bx, by })
-}
-
 fn read_question(fields: &mut Fields, heap: Global, word: Word) -> Result<Question, Trouble> {
     match word {
-        Word::Make => Ok(Question::Make(fields.symmetry(heap, false)?)),
+        Word::Make => Ok(Question::Make(fields.symmetry(heap, End::Line)?)),
         Word::Fold => read_fold(fields, heap),
-        Word::Reduce => read_reduce(fields),
+        Word::Reduce => Ok(Question::Reduce(fields.vectors()?)),
         Word::Classes => read_classes(fields, heap),
         Word::Card => Ok(Question::Card(fields.group()?)),
         Word::Cells => read_cells(fields),
@@ -102,7 +94,7 @@ fn read_memory(fields: &mut Fields) -> Result<Memory, Trouble> {
 
 fn read_command(fields: &mut Fields, heap: Global) -> Result<Command, Trouble> {
     match fields.wanted(Wanted::Command)? {
-        Word::Symmetry => Ok(Command::Setting(Setting::Symmetry(fields.symmetry(heap, false)?))),
+        Word::Symmetry => Ok(Command::Setting(Setting::Symmetry(fields.symmetry(heap, End::Line)?))),
         Word::Canvas => Ok(Command::Setting(Setting::Canvas(read_memory(fields)?))),
         Word::Palette => Ok(Command::Setting(Setting::Palette(fields.palette()?))),
         Word::Open => Ok(Command::Setting(Setting::Open)),

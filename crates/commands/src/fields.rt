@@ -2,7 +2,9 @@
 use super::trouble::{Fault, Trouble, Wanted};
 use groups::rules::GroupRefused;
 use groups::tabled::Tabled;
+use lattice::vectors::Vectors;
 use plane::cell::Cell;
+use plane::rectangle::Rectangle;
 
 // The fields that are still to be read, and how many have been.
 #[derive(Drop)]
@@ -12,7 +14,7 @@ pub struct Fields<'a> {
 }
 
 // The words that have a meaning of their own.
-#[derive(Clone, Copy)]
+#[derive(Clone, Copy, PartialEq, Eq)]
 pub enum Word {
     Make,
     Fold,
@@ -65,6 +67,10 @@ pub trait Read {
     fn size(&mut self) -> Result<usize, Trouble>;
 
     fn cell(&mut self) -> Result<Cell, Trouble>;
+
+    fn rectangle(&mut self) -> Result<Rectangle, Trouble>;
+
+    fn vectors(&mut self) -> Result<Vectors, Trouble>;
     // A symbol and two periods.
     fn group(&mut self) -> Result<Result<Tabled, GroupRefused>, Trouble>;
 
@@ -132,13 +138,10 @@ fn number(text: &str) -> Option<i64> {
 
 // A number from 0 to 1,000,000.
 fn size(text: &str) -> Option<usize> {
-    let n = number(text)?;
-    if n < 0 || n > 1_000_000 {
-        return None;
-    }
-    Some(n as usize)
+    usize::try_from(number(text)?).ok().filter(|n| *n <= 1_000_000)
 }
 
+// The value of a hexadecimal digit.
 fn digit(b: u8) -> Option<u8> {
     match b {
         b'0'..=b'9' => Some(b - b'0'),
@@ -150,21 +153,34 @@ fn digit(b: u8) -> Option<u8> {
 
 // The byte that two hexadecimal digits spell.
 fn byte(high: u8, low: u8) -> Option<u8> {
-    let high = digit(high)?;
-    let low = digit(low)?;
-    Some((high & 15) * 16 + (low & 15))
+    Some((digit(high)? & 15) << 4 | digit(low)? & 15)
 }
 
 // The bytes that 96 hexadecimal digits spell.
-fn palette(digits: &[u8]) -> Option<[u8; 48]> {
+fn palette(text: &str) -> Option<[u8; 48]> {
+    let digits = text.as_bytes();
     if digits.len() != 96 {
         return None;
     }
     let mut bytes = [0; 48];
-    for i in 0..48 {
-        bytes[i] = byte(digits[2 * i], digits[2 * i + 1])?;
+    for (spelled, pair) in bytes.iter_mut().zip(digits.chunks_exact(2)) {
+        *spelled = byte(pair[0], pair[1])?;
     }
     Some(bytes)
+}
+
+// A file's name, or the length of a palette.
+fn where_to(text: &str) -> Option<Target> {
+    match text.strip_prefix("palette=") {
+        Some(digits) => Some(Target::Palette(size(digits)?)),
+        None if text.is_empty() => None,
+        None => Some(Target::File),
+    }
+}
+
+// The length of an output.
+fn output(text: &str) -> Option<usize> {
+    size(text.strip_prefix("output=")?)
 }
 
 impl<'a> Fields<'a> {
@@ -186,10 +202,15 @@ impl<'a> Fields<'a> {
     fn text(&mut self, wanted: Wanted) -> Result<&'a str, Trouble> {
         match self.next() {
             Some(field) => Ok(field),
-            None => Err(Trouble {
-                field: self.read.saturating_add(1),
-                what: Fault::Missing(wanted),
-            }),
+            None => Err(self.missing(wanted)),
+        }
+    }
+
+    // What was read, if a field is what it has to be.
+    fn is<T: Drop>(&self, wanted: Wanted, read: Option<T>) -> Result<T, Trouble> {
+        match read {
+            Some(value) => Ok(value),
+            None => Err(self.trouble(Fault::Other(wanted))),
         }
     }
 }
@@ -206,41 +227,46 @@ impl Read for Fields<'_> {
     }
 
     fn number(&mut self) -> Result<i64, Trouble> {
-        match number(self.text(Wanted::Number)?) {
-            Some(n) => Ok(n),
-            None => Err(self.trouble(Fault::Other(Wanted::Number))),
-        }
+        let read = number(self.text(Wanted::Number)?);
+        self.is(Wanted::Number, read)
     }
 
     fn short_number(&mut self) -> Result<i32, Trouble> {
-        if let Some(n) = number(self.text(Wanted::ShortNumber)?) {
-            if let Ok(short) = i32::try_from(n) {
-                return Ok(short);
-            }
-        }
-        Err(self.trouble(Fault::Other(Wanted::ShortNumber)))
+        let read = number(self.text(Wanted::ShortNumber)?);
+        self.is(Wanted::ShortNumber, read.and_then(|n| i32::try_from(n).ok()))
     }
 
     fn ink(&mut self) -> Result<u8, Trouble> {
-        if let Some(n) = number(self.text(Wanted::Ink)?) {
-            if let Ok(ink) = u8::try_from(n) {
-                return Ok(ink);
-            }
-        }
-        Err(self.trouble(Fault::Other(Wanted::Ink)))
+        let read = number(self.text(Wanted::Ink)?);
+        self.is(Wanted::Ink, read.and_then(|n| u8::try_from(n).ok()))
     }
 
     fn size(&mut self) -> Result<usize, Trouble> {
-        match size(self.text(Wanted::Size)?) {
-            Some(n) => Ok(n),
-            None => Err(self.trouble(Fault::Other(Wanted::Size))),
-        }
+        let read = size(self.text(Wanted::Size)?);
+        self.is(Wanted::Size, read)
     }
 
     fn cell(&mut self) -> Result<Cell, Trouble> {
         let x = self.number()?;
         let y = self.number()?;
         Ok(Cell { x, y })
+    }
+
+    fn rectangle(&mut self) -> Result<Rectangle, Trouble> {
+        Ok(Rectangle {
+            corner: self.cell()?,
+            width: self.number()?,
+            height: self.number()?,
+        })
+    }
+
+    fn vectors(&mut self) -> Result<Vectors, Trouble> {
+        Ok(Vectors {
+            ax: self.number()?,
+            ay: self.number()?,
+            bx: self.number()?,
+            by: self.number()?,
+        })
     }
 
     fn group(&mut self) -> Result<Result<Tabled, GroupRefused>, Trouble> {
@@ -251,36 +277,18 @@ impl Read for Fields<'_> {
     }
 
     fn palette(&mut self) -> Result<[u8; 48], Trouble> {
-        match palette(self.text(Wanted::Palette)?.as_bytes()) {
-            Some(bytes) => Ok(bytes),
-            None => Err(self.trouble(Fault::Other(Wanted::Palette))),
-        }
+        let read = palette(self.text(Wanted::Palette)?);
+        self.is(Wanted::Palette, read)
     }
 
     fn target(&mut self) -> Result<Target, Trouble> {
-        let text = self.text(Wanted::Target)?;
-        match text.strip_prefix("palette=") {
-            Some(digits) => {
-                if let Some(n) = size(digits) {
-                    return Ok(Target::Palette(n));
-                }
-            }
-            None => {
-                if !text.is_empty() {
-                    return Ok(Target::File);
-                }
-            }
-        }
-        Err(self.trouble(Fault::Other(Wanted::Target)))
+        let read = where_to(self.text(Wanted::Target)?);
+        self.is(Wanted::Target, read)
     }
 
     fn output(&mut self) -> Result<usize, Trouble> {
-        if let Some(digits) = self.text(Wanted::Output)?.strip_prefix("output=") {
-            if let Some(n) = size(digits) {
-                return Ok(n);
-            }
-        }
-        Err(self.trouble(Fault::Other(Wanted::Output)))
+        let read = output(self.text(Wanted::Output)?);
+        self.is(Wanted::Output, read)
     }
 
     fn trouble(&self, what: Fault) -> Trouble {

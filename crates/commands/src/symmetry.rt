@@ -1,8 +1,10 @@
 // Symmetries as a line says them: a base, and layers over it, the lowest first.
 use super::fields::{Fields, Read, Word};
 use super::trouble::{Fault, Trouble, Wanted};
+use groups::rules::GroupRefused;
 use groups::tabled::Tabled;
 use lattice::oblique::Oblique;
+use lattice::refused::LatticeRefused;
 use lattice::vectors::Vectors;
 use layers::layer::Layer;
 use layers::matrix::Matrix;
@@ -16,7 +18,7 @@ use std::alloc::Global;
 #[derive(Clone, Copy)]
 pub enum Ground {
     Tabled { number: i64, p: i64, q: i64 },
-    Oblique { ax: i64, ay: i64, bx: i64, by: i64 },
+    Oblique(Vectors),
 }
 
 #[derive(Drop)]
@@ -25,65 +27,73 @@ pub struct Description {
     pub layers: Vec<Layer>,
 }
 
-// A symmetry that was made, or why it was not.
-#[derive(Drop)]
-pub enum Made {
-    Pile(Pile),
-    // The refusal's number.
-    Refused(u8),
-    NoMemory,
+// Why a symmetry is not made, by what refuses it.
+#[derive(Clone, Copy, PartialEq, Eq, Debug)]
+pub enum SymmetryRefused {
+    Group(GroupRefused),
+    Lattice(LatticeRefused),
+    Pile(PileRefused),
+}
+
+impl From<GroupRefused> for SymmetryRefused {
+    fn from(why: GroupRefused) -> SymmetryRefused {
+        SymmetryRefused::Group(why)
+    }
+}
+
+impl From<LatticeRefused> for SymmetryRefused {
+    fn from(why: LatticeRefused) -> SymmetryRefused {
+        SymmetryRefused::Lattice(why)
+    }
+}
+
+impl From<PileRefused> for SymmetryRefused {
+    fn from(why: PileRefused) -> SymmetryRefused {
+        SymmetryRefused::Pile(why)
+    }
 }
 
 // Makes what was described, from the base up.
 pub trait Make {
-    fn make(&self, heap: Global) -> Made;
+    fn make(&self, heap: Global) -> Result<Pile, SymmetryRefused>;
     // The plane group that it is, if it is one with no layers.
     fn group(&self) -> Option<Tabled>;
 }
 
-// Reading a symmetry, and the colon after it or the end of the line.
-pub trait ReadSymmetry {
-    fn symmetry(&mut self, heap: Global, colon: bool) -> Result<Description, Trouble>;
+// What ends a symmetry on its line.
+#[derive(Clone, Copy, PartialEq, Eq)]
+pub enum End {
+    Colon,
+    Line,
 }
 
-fn base(ground: Ground) -> Result<Base, u8> {
+// Reading a symmetry, and what ends it.
+pub trait ReadSymmetry {
+    fn symmetry(&mut self, heap: Global, end: End) -> Result<Description, Trouble>;
+}
+
+fn base(ground: Ground) -> Result<Base, SymmetryRefused> {
     match ground {
-        Ground::Tabled { number, p, q } => match Tabled::numbered(number, p, q) {
-            Ok(group) => Ok(Base::Tabled(group)),
-            Err(why) => Err(why.number()),
-        },
-        Ground::Oblique { ax, ay, bx, by } => match Oblique::over(Vectors { ax, ay, bx, by }) {
-            Ok(oblique) => Ok(Base::Oblique(oblique)),
-            Err(why) => Err(why.number()),
-        },
+        Ground::Tabled { number, p, q } => Ok(Base::Tabled(Tabled::numbered(number, p, q)?)),
+        Ground::Oblique(vectors) => Ok(Base::Oblique(Oblique::over(vectors)?)),
     }
 }
 
 impl Make for Description {
-    fn make(&self, heap: Global) -> Made {
-        let base = match base(self.ground) {
-            Ok(base) => base,
-            Err(number) => return Made::Refused(number),
-        };
-        let mut pile = Pile::over(base, heap);
-        for layer in self.layers.iter() {
-            if let Err(why) = pile.push(*layer) {
-                return match why {
-                    PileRefused::Layer(refusal) => Made::Refused(refusal.number()),
-                    PileRefused::NoMemory => Made::NoMemory,
-                };
-            }
+    fn make(&self, heap: Global) -> Result<Pile, SymmetryRefused> {
+        let mut pile = Pile::over(base(self.ground)?, heap);
+        for layer in &self.layers {
+            pile.push(*layer)?;
         }
-        Made::Pile(pile)
+        Ok(pile)
     }
 
     fn group(&self) -> Option<Tabled> {
-        if !self.layers.is_empty() {
-            return None;
-        }
         match self.ground {
-            Ground::Tabled { number, p, q } => Tabled::numbered(number, p, q).ok(),
-            Ground::Oblique { .. } => None,
+            Ground::Tabled { number, p, q } if self.layers.is_empty() => {
+                Tabled::numbered(number, p, q).ok()
+            }
+            _ => None,
         }
     }
 }
@@ -95,12 +105,7 @@ fn read_ground(fields: &mut Fields) -> Result<Ground, Trouble> {
             p: fields.number()?,
             q: fields.number()?,
         }),
-        Word::Oblique => Ok(Ground::Oblique {
-            ax: fields.number()?,
-            ay: fields.number()?,
-            bx: fields.number()?,
-            by: fields.number()?,
-        }),
+        Word::Oblique => Ok(Ground::Oblique(fields.vectors()?)),
         _ => Err(fields.trouble(Fault::Other(Wanted::Base))),
     }
 }
@@ -124,14 +129,15 @@ fn read_layer(fields: &mut Fields, word: Word) -> Result<Layer, Trouble> {
 }
 
 impl ReadSymmetry for Fields<'_> {
-    fn symmetry(&mut self, heap: Global, colon: bool) -> Result<Description, Trouble> {
+    fn symmetry(&mut self, heap: Global, end: End) -> Result<Description, Trouble> {
         let ground = read_ground(self)?;
         let mut layers = Vec::new(heap);
+        // a line has no more fields
         for _ in 0..u64::MAX {
             let Some(word) = self.word() else {
                 break;
             };
-            if colon && matches!(word, Word::Colon) {
+            if end == End::Colon && word == Word::Colon {
                 return Ok(Description { ground, layers });
             }
             let layer = read_layer(self, word)?;
@@ -139,9 +145,9 @@ impl ReadSymmetry for Fields<'_> {
                 return Err(self.trouble(Fault::NoMemory));
             }
         }
-        if colon {
-            return Err(self.missing(Wanted::Colon));
+        match end {
+            End::Line => Ok(Description { ground, layers }),
+            End::Colon => Err(self.missing(Wanted::Colon)),
         }
-        Ok(Description { ground, layers })
     }
 }

@@ -35,9 +35,9 @@ pub enum Wanted {
     Output,
 }
 
-impl Wanted {
-    fn words(self) -> &'static str {
-        match self {
+impl fmt::Display for Wanted {
+    fn fmt<W: fmt::Write>(&self, f: &mut fmt::Formatter<W>) -> fmt::Result {
+        let words = match self {
             Wanted::Command => "a command",
             Wanted::Base => "T or O, which begins a base",
             Wanted::Layer => "S, R or C, which begins a layer",
@@ -51,7 +51,8 @@ impl Wanted {
             Wanted::Palette => "96 hexadecimal digits",
             Wanted::Target => "a file or palette=LENGTH",
             Wanted::Output => "output=LENGTH",
-        }
+        };
+        write!(f, "{words}")
     }
 }
 
@@ -61,14 +62,8 @@ impl fmt::Display for Trouble {
         write!(f, "field {field}: ")?;
         match self.what {
             Fault::UnknownCommand => write!(f, "no command has this name; 'help' lists them"),
-            Fault::Missing(wanted) => {
-                let words = wanted.words();
-                write!(f, "missing; it has to be {words}")
-            }
-            Fault::Other(wanted) => {
-                let words = wanted.words();
-                write!(f, "not {words}")
-            }
+            Fault::Missing(wanted) => write!(f, "missing; it has to be {wanted}"),
+            Fault::Other(wanted) => write!(f, "not {wanted}"),
             Fault::Surplus => write!(f, "surplus"),
             Fault::NoMemory => write!(f, "no memory to read on"),
         }

@@ -1,141 +1,36 @@
 // A drawing job: what its sheets are drawn with, and the record of the sheet that is open.
-use super::other::{Other, TellOther};
-use super::performance::Perform;
-use super::record::{Begin, Keep, Line, OutOfTurn, Part, Place, Record, Sight};
-use super::tally::Tally;
-use super::tell::{Heading, Said, Tell};
+use super::line::Line;
+use super::record::{Kept, OutOfTurn, Part, Record};
+use super::teller::{Heading, Teller};
 use commands::call::Call;
 use commands::command::Setting;
 use commands::memory::Memory;
-use commands::symmetry::{Description, Made, Make};
+use commands::symmetry::{Description, Make};
 use groups::tabled::Tabled;
-use history::calls::Answer;
+use history::calls::Viewed;
 use pile::pile::Pile;
+use replies::refusal::Refusal;
 use std::io;
 
 #[derive(Drop)]
-pub struct Job {
-    pub symmetry: Option<Pile>,
-    // The plane group that the symmetry is, if it is one with no layers.
-    pub group: Option<Tabled>,
-    // The line that described the symmetry.
-    pub described: Place,
-    pub memory: Option<Memory>,
-    pub palette: [u8; 48],
-    pub sheet: Option<Record>,
+pub struct Job<'a> {
+    symmetry: Option<Subject<'a>>,
+    memory: Option<Memory>,
+    palette: [u8; 48],
+    sheet: Option<Record<'a>>,
 }
 
-pub trait Work {
-    // Ends the sheet, if there is one: makes its calls and prints its lines.
-    fn end(&mut self, rt: &HostRuntime, input: &[u8], tally: &mut Tally) -> io::Result<()>;
-    // Ends the sheet, and takes what the next one is drawn with, or opens it.
-    fn set(
-        &mut self,
-        rt: &HostRuntime,
-        input: &[u8],
-        place: Place,
-        setting: Setting,
-        tally: &mut Tally,
-    ) -> io::Result<()>;
-    // Keeps a call for the end of the sheet.
-    fn call(
-        &mut self,
-        rt: &HostRuntime,
-        input: &[u8],
-        place: Place,
-        call: Call,
-        tally: &mut Tally,
-    ) -> io::Result<()>;
-    // Keeps any other line for the end of the sheet, or prints it with its answer where there is no sheet.
-    fn other(
-        &mut self,
-        rt: &HostRuntime,
-        input: &[u8],
-        place: Place,
-        tally: &mut Tally,
-    ) -> io::Result<()>;
+// A symmetry as it was described.
+#[derive(Drop)]
+struct Subject<'a> {
+    pile: Pile,
+    // The plane group that it is, if it is one with no layers.
+    group: Option<Tabled>,
+    line: Line<'a>,
 }
 
-fn bytes_at(input: &[u8], start: usize, end: usize) -> &[u8] {
-    if start <= end && end <= input.len() {
-        return &input[start..end];
-    }
-    &input[0..0]
-}
-
-fn text_at(input: &[u8], start: usize, end: usize) -> &str {
-    match std::str::from_utf8(bytes_at(input, start, end)) {
-        Ok(text) => text,
-        Err(_) => "",
-    }
-}
-
-fn said(input: &[u8], place: Place) -> Said<'_> {
-    Said {
-        number: place.number,
-        text: text_at(input, place.start, place.end),
-    }
-}
-
-fn tell_other(rt: &HostRuntime, input: &[u8], place: Place, tally: &mut Tally) -> io::Result<()> {
-    let other = Other {
-        number: place.number,
-        bytes: bytes_at(input, place.start, place.end),
-    };
-    other.tell(rt, tally)
-}
-
-// The answer of a call, which only want of memory leaves out.
-fn tell_answer(
-    rt: &HostRuntime,
-    said: Said,
-    answer: Option<Answer>,
-    sight: Sight,
-    output: &[u8],
-    heading: Heading,
-    tally: &mut Tally,
-) -> io::Result<()> {
-    match answer {
-        Some(answer) => said.answer(rt, answer, sight, output, heading, tally),
-        None => said.no_memory(rt, tally),
-    }
-}
-
-fn drawn_answer(record: &Record, index: usize) -> Option<Answer> {
-    record.drawing.get(index)?.answer
-}
-
-fn viewed_answer(record: &Record, index: usize) -> Option<Answer> {
-    record.viewing.get(index)?.answer
-}
-
-fn tell_line(
-    rt: &HostRuntime,
-    input: &[u8],
-    record: &Record,
-    line: Line,
-    output: &[u8],
-    heading: Heading,
-    tally: &mut Tally,
-) -> io::Result<()> {
-    let said = said(input, line.place);
-    match line.part {
-        Part::Drawn(index, sight) => {
-            let answer = drawn_answer(record, index);
-            tell_answer(rt, said, answer, sight, output, heading, tally)
-        }
-        Part::Viewed(index, sight) => {
-            let answer = viewed_answer(record, index);
-            tell_answer(rt, said, answer, sight, output, heading, tally)
-        }
-        Part::Close => said.accepted(rt, tally),
-        Part::OutOfTurn(why) => said.out_of_turn(rt, why, tally),
-        Part::Other => tell_other(rt, input, line.place, tally),
-    }
-}
-
-impl Job {
-    fn heading<'a>(&self, input: &'a [u8]) -> Heading<'a> {
+impl<'a> Subject<'a> {
+    fn heading(&self) -> Heading<'a> {
         match self.group {
             Some(group) => Heading::Group {
                 symbol: group.symbol(),
@@ -143,130 +38,161 @@ impl Job {
                 q: group.q(),
             },
             None => {
-                let start = self.described.start.saturating_add(9);
-                Heading::Description(text_at(input, start, self.described.end))
+                let text = self.line.text();
+                Heading::Description(text.strip_prefix("symmetry ").unwrap_or(text))
             }
+        }
+    }
+}
+
+// Prints the lines of a record: each call with its answer, which only want of memory leaves out.
+fn tell(
+    teller: &mut Teller,
+    record: &Record,
+    output: &[u8],
+    heading: Heading,
+) -> io::Result<()> {
+    let closed: &[Viewed] = match &record.viewing {
+        Some(viewing) => viewing.as_slice(),
+        None => &[],
+    };
+    let mut drawn = record.drawing.as_slice().iter();
+    let mut viewed = closed.iter();
+    let mut rest = output;
+    for kept in &record.lines {
+        let Kept { line, part } = *kept;
+        let (answer, sight) = match part {
+            Part::Drawn(sight) => (drawn.next().and_then(|call| call.answer), sight),
+            Part::Viewed(sight) => (viewed.next().and_then(|call| call.answer), sight),
+            Part::Close => {
+                teller.accepted(line)?;
+                continue;
+            }
+            Part::OutOfTurn(why) => {
+                teller.out_of_turn(line, why)?;
+                continue;
+            }
+            Part::Other => {
+                teller.other(line)?;
+                continue;
+            }
+        };
+        let (given, later) = rest.split_at(sight.room.min(rest.len()));
+        rest = later;
+        match answer {
+            Some(answer) => teller.answered(line, answer, sight, given, heading)?,
+            None => teller.no_memory(line)?,
+        }
+    }
+    Ok(())
+}
+
+impl<'a> Job<'a> {
+    // A job that is drawn with nothing yet but a palette.
+    pub(crate) fn new(palette: [u8; 48]) -> Job<'a> {
+        Job {
+            symmetry: None,
+            memory: None,
+            palette,
+            sheet: None,
         }
     }
 
     // Makes the calls of a record, and prints its lines.
-    fn perform(
-        &self,
-        rt: &HostRuntime,
-        input: &[u8],
-        mut record: Record,
-        tally: &mut Tally,
-    ) -> io::Result<()> {
-        let mut output = Vec::new(rt.alloc());
-        if let Some(pile) = &self.symmetry {
+    fn perform(&self, teller: &mut Teller, mut record: Record<'a>) -> io::Result<()> {
+        let heap = teller.rt.alloc();
+        let mut output = Vec::new(heap);
+        let mut heading = Heading::Description("");
+        if let Some(subject) = &self.symmetry {
+            heading = subject.heading();
             if let Some(memory) = self.memory {
-                if let Ok(bytes) = record.perform(rt.alloc(), pile, memory, &self.palette) {
+                if let Ok(bytes) = record.perform(heap, &subject.pile, memory, &self.palette) {
                     output = bytes;
                 }
             }
         }
-        let heading = self.heading(input);
-        for line in record.lines.iter() {
-            tell_line(rt, input, &record, *line, output.as_slice(), heading, tally)?;
-        }
-        Ok(())
+        tell(teller, &record, output.as_slice(), heading)
     }
 
     fn set_symmetry(
         &mut self,
-        rt: &HostRuntime,
-        said: Said,
-        place: Place,
+        teller: &mut Teller,
+        line: Line<'a>,
         description: Description,
-        tally: &mut Tally,
     ) -> io::Result<()> {
         self.symmetry = None;
-        match description.make(rt.alloc()) {
-            Made::Pile(pile) => {
-                self.symmetry = Some(pile);
-                self.group = description.group();
-                self.described = place;
-                said.accepted(rt, tally)
+        match description.make(teller.rt.alloc()) {
+            Ok(pile) => {
+                let group = description.group();
+                self.symmetry = Some(Subject { pile, group, line });
+                teller.accepted(line)
             }
-            Made::Refused(number) => said.refused(rt, number, tally),
-            Made::NoMemory => said.no_memory(rt, tally),
+            Err(why) => teller.refused(line, Refusal::from(why)),
         }
     }
 
-    fn open(&mut self, rt: &HostRuntime, said: Said, tally: &mut Tally) -> io::Result<()> {
+    fn open(&mut self, teller: &mut Teller, line: Line<'a>) -> io::Result<()> {
         if self.symmetry.is_none() || self.memory.is_none() {
-            return said.out_of_turn(rt, OutOfTurn::NotReady, tally);
+            return teller.out_of_turn(line, OutOfTurn::NotReady);
         }
-        self.sheet = Some(Record::begin(rt.alloc()));
-        said.accepted(rt, tally)
+        self.sheet = Some(Record::begin(teller.rt.alloc()));
+        teller.accepted(line)
     }
-}
 
-impl Work for Job {
-    fn end(&mut self, rt: &HostRuntime, input: &[u8], tally: &mut Tally) -> io::Result<()> {
+    // Ends the sheet, if there is one: makes its calls and prints its lines.
+    pub(crate) fn end(&mut self, teller: &mut Teller) -> io::Result<()> {
         match self.sheet.take() {
-            Some(record) => self.perform(rt, input, record, tally),
+            Some(record) => self.perform(teller, record),
             None => Ok(()),
         }
     }
 
-    fn set(
+    // Ends the sheet, and takes what the next one is drawn with, or opens it.
+    pub(crate) fn set(
         &mut self,
-        rt: &HostRuntime,
-        input: &[u8],
-        place: Place,
+        teller: &mut Teller,
+        line: Line<'a>,
         setting: Setting,
-        tally: &mut Tally,
     ) -> io::Result<()> {
-        self.end(rt, input, tally)?;
-        let said = said(input, place);
+        self.end(teller)?;
         match setting {
-            Setting::Symmetry(description) => {
-                self.set_symmetry(rt, said, place, description, tally)
-            }
+            Setting::Symmetry(description) => self.set_symmetry(teller, line, description),
             Setting::Canvas(memory) => {
                 self.memory = Some(memory);
-                said.accepted(rt, tally)
+                teller.accepted(line)
             }
             Setting::Palette(palette) => {
                 self.palette = palette;
-                said.accepted(rt, tally)
+                teller.accepted(line)
             }
-            Setting::Open => self.open(rt, said, tally),
+            Setting::Open => self.open(teller, line),
         }
     }
 
-    fn call(
+    // Keeps a call for the end of the sheet.
+    pub(crate) fn call(
         &mut self,
-        rt: &HostRuntime,
-        input: &[u8],
-        place: Place,
+        teller: &mut Teller,
+        line: Line<'a>,
         call: Call,
-        tally: &mut Tally,
     ) -> io::Result<()> {
-        let said = said(input, place);
-        match &mut self.sheet {
-            Some(record) => match record.keep_call(place, call) {
-                Ok(()) => Ok(()),
-                Err(_) => said.no_memory(rt, tally),
-            },
-            None => said.out_of_turn(rt, OutOfTurn::NoSheet, tally),
+        let Some(record) = &mut self.sheet else {
+            return teller.out_of_turn(line, OutOfTurn::NoSheet);
+        };
+        match record.keep_call(line, call) {
+            Ok(()) => Ok(()),
+            Err(_) => teller.no_memory(line),
         }
     }
 
-    fn other(
-        &mut self,
-        rt: &HostRuntime,
-        input: &[u8],
-        place: Place,
-        tally: &mut Tally,
-    ) -> io::Result<()> {
-        match &mut self.sheet {
-            Some(record) => match record.keep_other(place) {
-                Ok(()) => Ok(()),
-                Err(_) => said(input, place).no_memory(rt, tally),
-            },
-            None => tell_other(rt, input, place, tally),
+    // Keeps any other line for the end of the sheet, or prints it with its answer where there is no sheet.
+    pub(crate) fn other(&mut self, teller: &mut Teller, line: Line<'a>) -> io::Result<()> {
+        let Some(record) = &mut self.sheet else {
+            return teller.other(line);
+        };
+        match record.keep_other(line) {
+            Ok(()) => Ok(()),
+            Err(_) => teller.no_memory(line),
         }
     }
 }

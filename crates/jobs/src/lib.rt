@@ -1,13 +1,10 @@
 // Runs a console's input: questions, and drawing jobs.
 #![tactic(auto)]
 
+mod help;
 mod job;
-mod other;
+mod line;
 mod performance;
-mod questions;
 mod record;
-mod refusal;
-mod reply;
 pub mod run;
-mod tally;
-mod tell;
+mod teller;

@@ -9,17 +9,6 @@ use sparse::record::CellRecord;
 use sparse::sparse::SparseCanvas;
 use std::alloc::{AllocError, Global};
 
-pub trait Perform {
-    // Fills in the answers of the record's calls, and gives the bytes of its windows.
-    fn perform(
-        &mut self,
-        heap: Global,
-        symmetry: &Pile,
-        memory: Memory,
-        palette: &[u8],
-    ) -> Result<Vec<u8>, AllocError>;
-}
-
 fn play<C: Canvas>(
     record: &mut Record,
     symmetry: &Pile,
@@ -28,16 +17,18 @@ fn play<C: Canvas>(
     output: &mut [u8],
 ) {
     let drawing = record.drawing.as_mut_slice();
-    if record.closed {
-        let viewing = record.viewing.as_mut_slice();
-        replay(symmetry, canvas, palette, drawing, Some(viewing), output);
-    } else {
-        replay(symmetry, canvas, palette, drawing, None, output);
+    match &mut record.viewing {
+        Some(viewing) => {
+            let viewing = viewing.as_mut_slice();
+            replay(symmetry, canvas, palette, drawing, Some(viewing), output);
+        }
+        None => replay(symmetry, canvas, palette, drawing, None, output),
     }
 }
 
-impl Perform for Record {
-    fn perform(
+impl Record<'_> {
+    // Fills in the answers of the record's calls, and gives the bytes of its windows.
+    pub(crate) fn perform(
         &mut self,
         heap: Global,
         symmetry: &Pile,

@@ -1,50 +1,50 @@
 // The record of a sheet: its lines from the opening on, and its calls as a history.
+use super::line::Line;
 use commands::call::Call;
 use history::calls::{Drawing, Drawn, Look, Viewed, Viewing};
 use std::alloc::{AllocError, Global};
 use std::fmt;
 
 #[derive(Drop)]
-pub struct Record {
-    pub lines: Vec<Line>,
+pub struct Record<'a> {
+    pub lines: Vec<Kept<'a>>,
     pub drawing: Vec<Drawn>,
-    pub viewing: Vec<Viewed>,
+    // The calls on the closed sheet, once it is closed.
+    pub viewing: Option<Vec<Viewed>>,
     // How many bytes the windows are given.
     pub room: usize,
-    pub closed: bool,
+    heap: Global,
 }
 
-// A line of the input: its number, and where its text begins and ends.
+// A line, and what it is to the sheet.
 #[derive(Clone, Copy)]
-pub struct Place {
-    pub number: u64,
-    pub start: usize,
-    pub end: usize,
-}
-
-#[derive(Clone, Copy)]
-pub struct Line {
-    pub place: Place,
+pub struct Kept<'a> {
+    pub line: Line<'a>,
     pub part: Part,
 }
 
-// What a line is to the sheet.
 #[derive(Clone, Copy)]
 pub enum Part {
-    // A call on the open or on the closed sheet, by its index among these; the bytes of a window begin at a place of the output.
-    Drawn(usize, Sight),
-    Viewed(usize, Sight),
+    // The next call on the open sheet, or on the closed one.
+    Drawn(Sight),
+    Viewed(Sight),
     Close,
     OutOfTurn(OutOfTurn),
     // No call: it is answered as it would be without a sheet.
     Other,
 }
 
-// Where the bytes of a window begin in the output, and whether they go to a file.
+// How many bytes of the output a call is given, and where they go.
 #[derive(Clone, Copy)]
 pub struct Sight {
-    pub begins: usize,
-    pub file: bool,
+    pub room: usize,
+    pub target: Target,
+}
+
+#[derive(Clone, Copy, PartialEq, Eq)]
+pub enum Target {
+    Line,
+    File,
 }
 
 // Why a call is not allowed now.
@@ -56,105 +56,85 @@ pub enum OutOfTurn {
     Open,
 }
 
-// Keeps lines as they come.
-pub trait Keep {
-    fn keep_call(&mut self, place: Place, call: Call) -> Result<(), AllocError>;
-
-    fn keep_other(&mut self, place: Place) -> Result<(), AllocError>;
-}
-
-// A record of no lines.
-pub trait Begin {
-    fn begin(heap: Global) -> Self;
-}
-
-fn look_room(look: Look) -> usize {
-    match look {
-        Look::Show(_) => 0,
-        Look::Window(window) => window.output,
+// The sight of a call that is given no bytes.
+fn blind() -> Sight {
+    Sight {
+        room: 0,
+        target: Target::Line,
     }
 }
 
-impl Record {
+impl<'a> Record<'a> {
+    // A record of no lines.
+    pub(crate) fn begin(heap: Global) -> Record<'a> {
+        Record {
+            lines: Vec::new(heap),
+            drawing: Vec::new(heap),
+            viewing: None,
+            room: 0,
+            heap,
+        }
+    }
+
     fn stroke(&mut self, stroke: Drawing) -> Result<Part, AllocError> {
-        if self.closed {
+        if self.viewing.is_some() {
             return Ok(Part::OutOfTurn(OutOfTurn::Closed));
         }
-        let index = self.drawing.len();
         self.drawing.push(Drawn::of(stroke))?;
-        let sight = Sight {
-            begins: 0,
-            file: false,
-        };
-        Ok(Part::Drawn(index, sight))
+        Ok(Part::Drawn(blind()))
     }
 
-    fn look(&mut self, look: Look, file: bool) -> Result<Part, AllocError> {
-        let sight = Sight {
-            begins: self.room,
-            file,
-        };
-        self.room = self.room.saturating_add(look_room(look));
-        if self.closed {
-            let index = self.viewing.len();
-            self.viewing.push(Viewed::of(Viewing::Look(look)))?;
-            return Ok(Part::Viewed(index, sight));
+    fn look(&mut self, look: Look, target: Target) -> Result<Part, AllocError> {
+        let room = look.room();
+        let sight = Sight { room, target };
+        self.room = self.room.saturating_add(room);
+        match &mut self.viewing {
+            Some(viewing) => {
+                viewing.push(Viewed::of(Viewing::Look(look)))?;
+                Ok(Part::Viewed(sight))
+            }
+            None => {
+                self.drawing.push(Drawn::of(Drawing::Look(look)))?;
+                Ok(Part::Drawn(sight))
+            }
         }
-        let index = self.drawing.len();
-        self.drawing.push(Drawn::of(Drawing::Look(look)))?;
-        Ok(Part::Drawn(index, sight))
     }
 
     fn close(&mut self) -> Part {
-        if self.closed {
+        if self.viewing.is_some() {
             return Part::OutOfTurn(OutOfTurn::Closed);
         }
-        self.closed = true;
+        self.viewing = Some(Vec::new(self.heap));
         Part::Close
     }
 
     fn quote(&mut self) -> Result<Part, AllocError> {
-        if !self.closed {
-            return Ok(Part::OutOfTurn(OutOfTurn::Open));
-        }
-        let index = self.viewing.len();
-        self.viewing.push(Viewed::of(Viewing::Quote))?;
-        let sight = Sight {
-            begins: 0,
-            file: false,
-        };
-        Ok(Part::Viewed(index, sight))
-    }
-}
-
-impl Begin for Record {
-    fn begin(heap: Global) -> Record {
-        Record {
-            lines: Vec::new(heap),
-            drawing: Vec::new(heap),
-            viewing: Vec::new(heap),
-            room: 0,
-            closed: false,
+        match &mut self.viewing {
+            Some(viewing) => {
+                viewing.push(Viewed::of(Viewing::Quote))?;
+                Ok(Part::Viewed(blind()))
+            }
+            None => Ok(Part::OutOfTurn(OutOfTurn::Open)),
         }
     }
-}
 
-impl Keep for Record {
-    fn keep_call(&mut self, place: Place, call: Call) -> Result<(), AllocError> {
+    // Keeps a call on the sheet, with its line.
+    pub(crate) fn keep_call(&mut self, line: Line<'a>, call: Call) -> Result<(), AllocError> {
         let part = match call {
             Call::Stroke(stroke) => self.stroke(stroke)?,
-            Call::Look(look) => self.look(look, false)?,
-            Call::Picture(window) => self.look(Look::Window(window), true)?,
+            Call::Look(look) => self.look(look, Target::Line)?,
+            Call::Picture(window) => self.look(Look::Window(window), Target::File)?,
             Call::Close => self.close(),
             Call::Quote => self.quote()?,
         };
-        self.lines.push(Line { place, part })?;
+        self.lines.push(Kept { line, part })?;
         Ok(())
     }
 
-    fn keep_other(&mut self, place: Place) -> Result<(), AllocError> {
+    // Keeps any other line.
+    pub(crate) fn keep_other(&mut self, line: Line<'a>) -> Result<(), AllocError> {
         let part = Part::Other;
-        self.lines.push(Line { place, part })?;
+        self.lines.push(Kept { line, part })?;
         Ok(())
     }
 }

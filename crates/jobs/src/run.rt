@@ -1,10 +1,9 @@
 // A whole run.
-ghost use Rattle.std.specs.Prelude.{◌≤◌, length};
-
-use super::job::{Job, Work};
-use super::record::Place;
-use super::tally::Tally;
+use super::job::Job;
+use super::line::Line;
+use super::teller::Teller;
 use commands::command::{Command, ReadLine};
+use replies::tally::{Count, Tally};
 use std::alloc::Global;
 use std::io;
 use std::io::Read;
@@ -21,87 +20,44 @@ const PALETTE: [u8; 48] = [
     0, 109, 119, 20, 20, 30,
 ];
 
-// The end of the line that begins at `start`: its line feed, or the end of the input.
-fn line_end(input: &[u8], start: usize) -> usize
-    requires { start ≤ length input.now }
-    ensures { (start ≤ result) × (result ≤ length input.now) }
-{
-    for i in start..input.len() {
-        if input[i] == b'\n' {
-            return i;
-        }
-    }
-    input.len()
-}
-
-// A remark may hold any bytes.
-fn is_remark(line: &[u8]) -> bool {
-    !line.is_empty() && line[0] == b'#'
-}
-
-fn read(heap: Global, line: &[u8]) -> Option<Command> {
-    let text = std::str::from_utf8(line).ok()?;
+fn read(heap: Global, bytes: &[u8]) -> Option<Command> {
+    let text = std::str::from_utf8(bytes).ok()?;
     Command::read_line(heap, text).ok()
 }
 
-fn run_line(
-    rt: &HostRuntime,
-    input: &[u8],
-    place: Place,
-    line: &[u8],
-    job: &mut Job,
-    tally: &mut Tally,
-) -> io::Result<()> {
-    if is_remark(line) {
+fn run_line<'a>(teller: &mut Teller, line: Line<'a>, job: &mut Job<'a>) -> io::Result<()> {
+    // a remark may hold any bytes
+    if line.bytes.starts_with(b"#") {
         return Ok(());
     }
-    match read(rt.alloc(), line) {
+    match read(teller.rt.alloc(), line.bytes) {
         Some(Command::Nothing) => Ok(()),
-        Some(Command::Setting(setting)) => job.set(rt, input, place, setting, tally),
-        Some(Command::Call(call)) => job.call(rt, input, place, call, tally),
-        _ => job.other(rt, input, place, tally),
+        Some(Command::Setting(setting)) => job.set(teller, line, setting),
+        Some(Command::Call(call)) => job.call(teller, line, call),
+        _ => job.other(teller, line),
     }
 }
 
-fn run_lines(rt: &HostRuntime, input: &[u8], job: &mut Job, tally: &mut Tally) -> io::Result<()> {
-    let mut start = 0;
+fn run_lines(teller: &mut Teller, input: &[u8]) -> io::Result<()> {
+    let mut job = Job::new(PALETTE);
     let mut number: u64 = 0;
-    while start < input.len() {
-        let end = line_end(input, start);
+    for bytes in input.split(|byte| *byte == b'\n') {
         number = number.saturating_add(1);
-        let place = Place { number, start, end };
-        run_line(rt, input, place, &input[start..end], job, tally)?;
-        start = end + 1;
+        run_line(teller, Line { number, bytes }, &mut job)?;
     }
-    job.end(rt, input, tally)
-}
-
-fn blank_job() -> Job {
-    Job {
-        symmetry: None,
-        group: None,
-        described: Place {
-            number: 0,
-            start: 0,
-            end: 0,
-        },
-        memory: None,
-        palette: PALETTE,
-        sheet: None,
-    }
+    job.end(teller)
 }
 
 impl Console for HostRuntime {
     fn run_console(&self) -> io::Result<()> {
         let mut input = Vec::new(self.alloc());
         self.stdin().read_to_end(&mut input)?;
-        let mut job = blank_job();
-        let mut tally = Tally {
-            answers: 0,
-            refusals: 0,
-            puzzles: 0,
+        let mut teller = Teller {
+            rt: self,
+            tally: Tally::none(),
         };
-        run_lines(self, input.as_slice(), &mut job, &mut tally)?;
+        run_lines(&mut teller, input.as_slice())?;
+        let tally = teller.tally;
         println!(self; "{tally}")
     }
 }

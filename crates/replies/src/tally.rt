@@ -10,6 +10,9 @@ pub struct Tally {
 
 // A command is answered or refused; any other line is a puzzle.
 pub trait Count {
+    // Nothing yet.
+    fn none() -> Self;
+
     fn answered(&mut self);
 
     fn refused(&mut self);
@@ -18,6 +21,14 @@ pub trait Count {
 }
 
 impl Count for Tally {
+    fn none() -> Tally {
+        Tally {
+            answers: 0,
+            refusals: 0,
+            puzzles: 0,
+        }
+    }
+
     fn answered(&mut self) {
         self.answers = self.answers.saturating_add(1);
     }
