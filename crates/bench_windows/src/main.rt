@@ -6,6 +6,7 @@ use canvas::canvas::Canvas;
 use dense::dense::DenseCanvas;
 use groups::tabled::Tabled;
 use plane::cell::Cell;
+use plane::rectangle::Rectangle;
 use plane::symmetry::Symmetry;
 use sheet::sheet::{ClosedSheet, OpenSheet, Sheet};
 use std::time::Instant;
@@ -22,8 +23,8 @@ struct Drawn {
 // The cell so many steps from a start.
 fn cell(x: i16, y: i16, right: i8, down: i8, steps: u8) -> Cell {
     Cell {
-        x: x as i64 + right as i64 * steps as i64,
-        y: y as i64 + down as i64 * steps as i64,
+        x: i64::from(x) + i64::from(right) * i64::from(steps),
+        y: i64::from(y) + i64::from(down) * i64::from(steps),
     }
 }
 
@@ -42,11 +43,9 @@ fn draw<S: Symmetry, C: Canvas>(sheet: &mut OpenSheet, symmetry: &S, canvas: &mu
 
 // Adds bytes to a checksum.
 fn summed(sum: u64, bytes: &[u8]) -> u64 {
-    let mut sum = sum;
-    for byte in bytes {
-        sum = sum.wrapping_mul(31).wrapping_add(*byte as u64);
-    }
-    sum
+    bytes.iter().fold(sum, |sum, byte| {
+        sum.wrapping_mul(31).wrapping_add(u64::from(*byte))
+    })
 }
 
 // Draws every window over the bytes of the one before.
@@ -61,9 +60,13 @@ fn view<S: Symmetry, C: Canvas>(
     let mut micros: u128 = 0;
     let mut sum: u64 = 0;
     for i in 0..WINDOWS {
-        let corner = cell(-500, 300, 7, -5, i);
+        let rectangle = Rectangle {
+            corner: cell(-500, 300, 7, -5, i),
+            width: 128,
+            height: 128,
+        };
         let start = Instant::now(rt)?;
-        let answer = sheet.window(symmetry, canvas, corner, 128, 128, &palette, output);
+        let answer = sheet.window(symmetry, canvas, rectangle, &palette, output);
         micros = micros.saturating_add(start.elapsed(rt)?.as_micros());
         if answer.is_ok() {
             sum = summed(sum, output);
@@ -85,7 +88,7 @@ fn main(rt: HostRuntime) -> anyhow::Result<()> {
     let result = view(&rt, &closed, &symmetry, &canvas, output.as_mut_slice());
     let quote = closed.leave();
     let drawn = result?;
-    let micros = drawn.micros / WINDOWS as u128;
+    let micros = drawn.micros / u128::from(WINDOWS);
     let sum = drawn.sum;
     let held = quote.held;
     eprintln!(rt; "window: {micros} us")?;

@@ -8,29 +8,27 @@ use layers::layer::Layer;
 use pile::base::Base;
 use pile::pile::Pile;
 use plane::cell::Cell;
+use plane::rectangle::Rectangle;
 use std::alloc::Global;
 use std::test::Fail;
 
-// An answer in plain numbers: that of the refusal, or 0 for none, and then how many cells were laid, the ink, or how many bytes were written; of a quote the held cells and the strokes.
+// An answer in plain numbers: how many cells were laid, the ink, how many bytes were written, or the held cells and the strokes of a quote. A refusal is its number, that of a stroke with how many cells were laid before it.
 #[derive(Clone, Copy, PartialEq, Eq, Debug)]
 enum Told {
-    Laid(u8, u16),
-    Ink(u8, u8),
-    Bytes(u8, usize),
+    Laid(Result<u16, (u8, u16)>),
+    Ink(Result<u8, u8>),
+    Bytes(Result<usize, u8>),
     Quote(u32, u16),
-    Nothing,
 }
 
-fn plain(answer: Option<Answer>) -> Told {
+fn plain(answer: Answer) -> Told {
     match answer {
-        Some(Answer::Stroked(Ok(laid))) => Told::Laid(0, laid),
-        Some(Answer::Stroked(Err(stopped))) => Told::Laid(stopped.refusal.number(), stopped.laid),
-        Some(Answer::Shown(Ok(ink))) => Told::Ink(0, ink),
-        Some(Answer::Shown(Err(why))) => Told::Ink(why.number(), 0),
-        Some(Answer::Windowed(Ok(bytes))) => Told::Bytes(0, bytes),
-        Some(Answer::Windowed(Err(why))) => Told::Bytes(why.number(), 0),
-        Some(Answer::Quoted(quote)) => Told::Quote(quote.held, quote.strokes),
-        None => Told::Nothing,
+        Answer::Stroked(laid) => {
+            Told::Laid(laid.map_err(|stopped| (stopped.refusal.number(), stopped.laid)))
+        }
+        Answer::Shown(ink) => Told::Ink(ink.map_err(|why| why.number())),
+        Answer::Windowed(bytes) => Told::Bytes(bytes.map_err(|why| why.number())),
+        Answer::Quoted(quote) => Told::Quote(quote.held, quote.strokes),
     }
 }
 
@@ -46,9 +44,11 @@ fn mirrors(heap: Global) -> Result<Pile, Fail> {
 // A window of one cell, with so many bytes of the output.
 fn pixel(x: i64, y: i64, output: usize) -> Look {
     Look::Window(Window {
-        corner: Cell { x, y },
-        width: 1,
-        height: 1,
+        rectangle: Rectangle {
+            corner: Cell { x, y },
+            width: 1,
+            height: 1,
+        },
         palette: 48,
         output,
     })
@@ -85,14 +85,14 @@ fn open_at_the_end(rt: HostRuntime) -> Result<(), Fail> {
         &mut output,
     );
     for (answer, expected) in [
-        (drawing[0].answer, Told::Laid(0, 1)),
-        (drawing[1].answer, Told::Ink(0, 2)),
-        (drawing[2].answer, Told::Bytes(0, 14)),
-        (drawing[3].answer, Told::Laid(0, 5)),
-        (drawing[4].answer, Told::Bytes(0, 14)),
-        (drawing[5].answer, Told::Bytes(9, 0)),
+        (drawing[0].answer, Told::Laid(Ok(1))),
+        (drawing[1].answer, Told::Ink(Ok(2))),
+        (drawing[2].answer, Told::Bytes(Ok(14))),
+        (drawing[3].answer, Told::Laid(Ok(5))),
+        (drawing[4].answer, Told::Bytes(Ok(14))),
+        (drawing[5].answer, Told::Bytes(Err(9))),
     ] {
-        assert_eq!(rt; plain(answer), expected);
+        assert_eq!(rt; answer.map(plain), Some(expected));
     }
     assert_eq!(rt; output, *b"P6\n1 1\n255\n222P6\n1 1\n255\nfff....");
     Ok(())
@@ -131,14 +131,14 @@ fn closed_at_the_end(rt: HostRuntime) -> Result<(), Fail> {
         &mut output,
     );
     for (answer, expected) in [
-        (drawing[0].answer, Told::Laid(3, 2)),
-        (drawing[1].answer, Told::Laid(1, 0)),
+        (drawing[0].answer, Told::Laid(Err((3, 2)))),
+        (drawing[1].answer, Told::Laid(Err((1, 0)))),
         (viewing[0].answer, Told::Quote(2, 1)),
-        (viewing[1].answer, Told::Ink(0, 4)),
-        (viewing[2].answer, Told::Ink(2, 0)),
-        (viewing[3].answer, Told::Bytes(9, 0)),
+        (viewing[1].answer, Told::Ink(Ok(4))),
+        (viewing[2].answer, Told::Ink(Err(2))),
+        (viewing[3].answer, Told::Bytes(Err(9))),
     ] {
-        assert_eq!(rt; plain(answer), expected);
+        assert_eq!(rt; answer.map(plain), Some(expected));
     }
     assert_eq!(rt; output, [b'.'; 32]);
     Ok(())

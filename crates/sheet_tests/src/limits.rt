@@ -5,10 +5,9 @@ use std::test::Fail;
 
 // How many cells the line between two cells has, or the number of the refusal.
 fn cells(from: Cell, to: Cell) -> Result<u16, u8> {
-    match Line::between(from, to) {
-        Ok(line) => Ok(line.cells()),
-        Err(why) => Err(why.number()),
-    }
+    Line::between(from, to)
+        .map(|line| line.cells())
+        .map_err(|why| why.number())
 }
 
 // A line of 4,096 cells stands, and a longer one is refused with 6, in every direction and at the ends of 64 bits.

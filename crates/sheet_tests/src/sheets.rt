@@ -3,27 +3,32 @@ use canvas::canvas::Canvas;
 use dense::dense::DenseCanvas;
 use groups::tabled::Tabled;
 use plane::cell::Cell;
-use plane::fold::FoldRefused;
 use plane::symmetry::Symmetry;
 use sheet::sheet::{ClosedSheet, OpenSheet, Quote, Sheet};
 use std::process::Abort;
 use std::test::Fail;
 
 // Cells, and what each shows after the dots of the tests: an ink, or the number of the refusal.
-const SHOWN: [(i64, i64, Result<u8, u8>); 6] = [
-    (1, 1, Ok(3)),
-    (3, 3, Ok(3)),
-    (1, 2, Ok(0)),
-    (1_000_000, -1_000_000, Ok(5)),
-    (1_000_001, 0, Err(2)),
-    (0, i64::MIN, Err(2)),
+const SHOWN: [(Cell, Result<u8, u8>); 6] = [
+    (Cell { x: 1, y: 1 }, Ok(3)),
+    (Cell { x: 3, y: 3 }, Ok(3)),
+    (Cell { x: 1, y: 2 }, Ok(0)),
+    (
+        Cell {
+            x: 1_000_000,
+            y: -1_000_000,
+        },
+        Ok(5),
+    ),
+    (Cell { x: 1_000_001, y: 0 }, Err(2)),
+    (Cell { x: 0, y: i64::MIN }, Err(2)),
 ];
 
-// The ink, or the number of the refusal.
-fn told(answer: Result<u8, FoldRefused>) -> Result<u8, u8> {
-    match answer {
-        Ok(ink) => Ok(ink),
-        Err(why) => Err(why.number()),
+// Looks at each of the cells.
+fn looks<T: Sheet, S: Symmetry, C: Canvas>(rt: &impl Abort, sheet: &T, symmetry: &S, canvas: &C) {
+    for (at, expected) in SHOWN {
+        let shown = sheet.show(symmetry, canvas, at);
+        assert_eq!(rt; shown.map_err(|why| why.number()), expected);
     }
 }
 
@@ -42,9 +47,7 @@ fn draw<S: Symmetry, C: Canvas>(
             .dot(symmetry, canvas, Cell { x: 1, y: 1 }, 16)
             .is_err()
     );
-    for (x, y, expected) in SHOWN {
-        assert_eq!(rt; told(sheet.show(symmetry, canvas, Cell { x, y })), expected);
-    }
+    looks(rt, sheet, symmetry, canvas);
     Ok(())
 }
 
@@ -70,9 +73,7 @@ fn view<S: Symmetry, C: Canvas>(
     symmetry: &S,
     canvas: &mut C,
 ) -> Result<(), Fail> {
-    for (x, y, expected) in SHOWN {
-        assert_eq!(rt; told(sheet.show(symmetry, canvas, Cell { x, y })), expected);
-    }
+    looks(rt, sheet, symmetry, canvas);
     canvas.clear();
     assert_eq!(rt;
         sheet.quote(),

@@ -18,28 +18,28 @@ enum Shape {
     Line(i64, i64, i64, i64),
 }
 
-// A shape in an ink, and what should come of it: the number of the refusal, or 0 for none, and how many cells are laid.
-#[derive(Clone, Copy)]
-struct Stroke(Shape, u8, u8, u16);
+// How many cells a stroke lays, or the number of its refusal and how many were laid before it.
+type Outcome = Result<u16, (u8, u16)>;
 
-// Makes a stroke, and answers the number of its refusal, or 0, and how many cells were laid.
+// A shape in an ink, and what should come of it.
+#[derive(Clone, Copy)]
+struct Stroke(Shape, u8, Outcome);
+
+// Makes a stroke.
 fn made<S: Symmetry, C: Canvas>(
     sheet: &mut OpenSheet,
     symmetry: &S,
     canvas: &mut C,
     shape: Shape,
     ink: u8,
-) -> (u8, u16) {
+) -> Outcome {
     let answer = match shape {
         Shape::Dot(x, y) => sheet.dot(symmetry, canvas, Cell { x, y }, ink),
         Shape::Line(x, y, u, v) => {
             sheet.line(symmetry, canvas, Cell { x, y }, Cell { x: u, y: v }, ink)
         }
     };
-    match answer {
-        Ok(laid) => (0, laid),
-        Err(stopped) => (stopped.refusal.number(), stopped.laid),
-    }
+    answer.map_err(|stopped| (stopped.refusal.number(), stopped.laid))
 }
 
 // Makes each stroke in turn.
@@ -51,8 +51,8 @@ fn make<S: Symmetry, C: Canvas>(
     all: &[Stroke],
 ) -> Result<(), Fail> {
     for stroke in all {
-        let Stroke(shape, ink, number, laid) = *stroke;
-        assert_eq!(rt; made(sheet, symmetry, canvas, shape, ink), (number, laid));
+        let Stroke(shape, ink, outcome) = *stroke;
+        assert_eq!(rt; made(sheet, symmetry, canvas, shape, ink), outcome);
     }
     Ok(())
 }
@@ -90,27 +90,27 @@ fn order_on_a_full_canvas(rt: HostRuntime) -> Result<(), Fail> {
     let mut records = [BLANK; 1];
     let mut canvas = SparseCanvas::over(&mut records);
     let all = [
-        Stroke(Shape::Dot(1, 2), 1, 0, 1),
+        Stroke(Shape::Dot(1, 2), 1, Ok(1)),
         // an ink, and the span, and the length
-        Stroke(Shape::Dot(1_000_001, 2), 16, 1, 0),
-        Stroke(Shape::Line(2, 2, 4098, 2), 255, 1, 0),
-        Stroke(Shape::Dot(2, 2), 16, 1, 0),
+        Stroke(Shape::Dot(1_000_001, 2), 16, Err((1, 0))),
+        Stroke(Shape::Line(2, 2, 4098, 2), 255, Err((1, 0))),
+        Stroke(Shape::Dot(2, 2), 16, Err((1, 0))),
         // the span at either end, and the length, a clash or the seats
-        Stroke(Shape::Line(2, 2, 2, -1_000_001), 1, 2, 0),
-        Stroke(Shape::Line(i64::MAX, i64::MIN, 2, 2), 1, 2, 0),
-        Stroke(Shape::Line(999_999, 2, 1_000_001, 2), 1, 2, 0),
-        Stroke(Shape::Line(999_998, 2, 1_000_001, 2), 15, 2, 0),
+        Stroke(Shape::Line(2, 2, 2, -1_000_001), 1, Err((2, 0))),
+        Stroke(Shape::Line(i64::MAX, i64::MIN, 2, 2), 1, Err((2, 0))),
+        Stroke(Shape::Line(999_999, 2, 1_000_001, 2), 1, Err((2, 0))),
+        Stroke(Shape::Line(999_998, 2, 1_000_001, 2), 15, Err((2, 0))),
         // the length, and a clash or the seats
-        Stroke(Shape::Line(3, 2, 4099, 2), 1, 6, 0),
-        Stroke(Shape::Line(2, 2, 2, 4098), 1, 6, 0),
+        Stroke(Shape::Line(3, 2, 4099, 2), 1, Err((6, 0))),
+        Stroke(Shape::Line(2, 2, 2, 4098), 1, Err((6, 0))),
         // a clash, and the seats
-        Stroke(Shape::Dot(999_999, 2), 1, 3, 0),
-        Stroke(Shape::Line(3, 2, 2, 2), 14, 3, 0),
+        Stroke(Shape::Dot(999_999, 2), 1, Err((3, 0))),
+        Stroke(Shape::Line(3, 2, 2, 2), 14, Err((3, 0))),
         // the seats alone
-        Stroke(Shape::Dot(3, 2), 15, 5, 0),
-        Stroke(Shape::Line(2, 2, 4097, 2), 1, 5, 0),
+        Stroke(Shape::Dot(3, 2), 15, Err((5, 0))),
+        Stroke(Shape::Line(2, 2, 4097, 2), 1, Err((5, 0))),
         // bare cells need none
-        Stroke(Shape::Line(2, 2, 4097, 2), 0, 0, 4096),
+        Stroke(Shape::Line(2, 2, 4097, 2), 0, Ok(4096)),
     ];
     drawn(&rt, &symmetry, &mut canvas, &all, 2, 0)
 }
@@ -122,13 +122,13 @@ fn order_outside_the_frame(rt: HostRuntime) -> Result<(), Fail> {
     let mut bytes = [0; 1];
     let mut canvas = DenseCanvas::over(&mut bytes, 1, 1, 2);
     let all = [
-        Stroke(Shape::Dot(2, 2), 16, 1, 0),
-        Stroke(Shape::Line(2, 2, 1_000_001, 2), 1, 2, 0),
-        Stroke(Shape::Line(2, 2, 4098, 2), 1, 6, 0),
-        Stroke(Shape::Dot(3, 2), 1, 3, 0),
-        Stroke(Shape::Dot(3, 2), 15, 4, 0),
-        Stroke(Shape::Dot(2, 2), 0, 4, 0),
-        Stroke(Shape::Dot(5, 2), 1, 0, 1),
+        Stroke(Shape::Dot(2, 2), 16, Err((1, 0))),
+        Stroke(Shape::Line(2, 2, 1_000_001, 2), 1, Err((2, 0))),
+        Stroke(Shape::Line(2, 2, 4098, 2), 1, Err((6, 0))),
+        Stroke(Shape::Dot(3, 2), 1, Err((3, 0))),
+        Stroke(Shape::Dot(3, 2), 15, Err((4, 0))),
+        Stroke(Shape::Dot(2, 2), 0, Err((4, 0))),
+        Stroke(Shape::Dot(5, 2), 1, Ok(1)),
     ];
     drawn(&rt, &symmetry, &mut canvas, &all, 1, 1)?;
     row(&rt, &canvas, 1, 2, &[2]);
@@ -142,10 +142,10 @@ fn stops(rt: HostRuntime) -> Result<(), Fail> {
     let mut records = [BLANK; 3];
     let mut canvas = SparseCanvas::over(&mut records);
     let all = [
-        Stroke(Shape::Line(1, 2, 5, 2), 1, 3, 2),
-        Stroke(Shape::Line(4, 2, 1, 5), 3, 3, 1),
-        Stroke(Shape::Line(2, 3, 2, 5), 5, 5, 1),
-        Stroke(Shape::Line(2, 4, 2, 5), 5, 5, 0),
+        Stroke(Shape::Line(1, 2, 5, 2), 1, Err((3, 2))),
+        Stroke(Shape::Line(4, 2, 1, 5), 3, Err((3, 1))),
+        Stroke(Shape::Line(2, 3, 2, 5), 5, Err((5, 1))),
+        Stroke(Shape::Line(2, 4, 2, 5), 5, Err((5, 0))),
     ];
     drawn(&rt, &symmetry, &mut canvas, &all, 3, 3)?;
     row(&rt, &canvas, 1, 2, &[1, 4, 0, 0]);
@@ -154,8 +154,8 @@ fn stops(rt: HostRuntime) -> Result<(), Fail> {
     let mut framed = DenseCanvas::over(&mut bytes, 2, 0, 0);
     let plain = Tabled::numbered(1, 6, 6)?;
     let all = [
-        Stroke(Shape::Line(0, 0, 5, 0), 9, 4, 2),
-        Stroke(Shape::Line(2, 1, 0, 1), 9, 4, 0),
+        Stroke(Shape::Line(0, 0, 5, 0), 9, Err((4, 2))),
+        Stroke(Shape::Line(2, 1, 0, 1), 9, Err((4, 0))),
     ];
     drawn(&rt, &plain, &mut framed, &all, 1, 2)?;
     row(&rt, &framed, 0, 0, &[9, 9, 0]);
@@ -169,19 +169,17 @@ fn longest(rt: HostRuntime) -> Result<(), Fail> {
     let mut records = [BLANK; 128];
     let mut canvas = SparseCanvas::over(&mut records);
     let all = [
-        Stroke(Shape::Line(0, 3, 4095, 3), 7, 0, 4096),
-        Stroke(Shape::Line(4096, 3, 0, 3), 7, 6, 0),
+        Stroke(Shape::Line(0, 3, 4095, 3), 7, Ok(4096)),
+        Stroke(Shape::Line(4096, 3, 0, 3), 7, Err((6, 0))),
         Stroke(
             Shape::Line(1_000_000, -1_000_000, 995_905, -1_000_000),
             8,
-            0,
-            4096,
+            Ok(4096),
         ),
         Stroke(
             Shape::Line(-1_000_000, 1_000_000, -995_905, 995_905),
             0,
-            0,
-            4096,
+            Ok(4096),
         ),
     ];
     drawn(&rt, &symmetry, &mut canvas, &all, 3, 126)?;
@@ -204,7 +202,7 @@ fn many<S: Symmetry, C: Canvas>(
             sheet,
             symmetry,
             canvas,
-            &[Stroke(Shape::Dot(1, 2), 1, 0, 1)],
+            &[Stroke(Shape::Dot(1, 2), 1, Ok(1))],
         )?;
     }
     make(rt, sheet, symmetry, canvas, all)
@@ -218,15 +216,15 @@ fn full_sheet(rt: HostRuntime) -> Result<(), Fail> {
     let mut canvas = SparseCanvas::over(&mut records);
     let mut sheet = OpenSheet::open(&mut canvas);
     let all = [
-        Stroke(Shape::Dot(3, 2), 1, 3, 0),
-        Stroke(Shape::Dot(2, 2), 1, 5, 0),
-        Stroke(Shape::Dot(5, 2), 4, 0, 1),
-        Stroke(Shape::Dot(1, 2), 1, 7, 0),
-        Stroke(Shape::Dot(1, 2), 16, 7, 0),
-        Stroke(Shape::Dot(1_000_001, 2), 1, 7, 0),
-        Stroke(Shape::Line(1, 2, 4097, 2), 1, 7, 0),
-        Stroke(Shape::Dot(3, 2), 1, 7, 0),
-        Stroke(Shape::Dot(2, 2), 1, 7, 0),
+        Stroke(Shape::Dot(3, 2), 1, Err((3, 0))),
+        Stroke(Shape::Dot(2, 2), 1, Err((5, 0))),
+        Stroke(Shape::Dot(5, 2), 4, Ok(1)),
+        Stroke(Shape::Dot(1, 2), 1, Err((7, 0))),
+        Stroke(Shape::Dot(1, 2), 16, Err((7, 0))),
+        Stroke(Shape::Dot(1_000_001, 2), 1, Err((7, 0))),
+        Stroke(Shape::Line(1, 2, 4097, 2), 1, Err((7, 0))),
+        Stroke(Shape::Dot(3, 2), 1, Err((7, 0))),
+        Stroke(Shape::Dot(2, 2), 1, Err((7, 0))),
     ];
     let result = many(&rt, &mut sheet, &symmetry, &mut canvas, 65_534, &all);
     let had = sheet.leave();

@@ -4,6 +4,7 @@ use canvas::canvas::Canvas;
 use groups::tabled::Tabled;
 use layers::counterchange::Counterchange;
 use plane::cell::Cell;
+use plane::rectangle::Rectangle;
 use plane::symmetry::Symmetry;
 use sheet::sheet::{OpenSheet, Sheet};
 use sparse::sparse::SparseCanvas;
@@ -22,26 +23,20 @@ fn refuses<S: Symmetry, C: Canvas>(
     canvas: &C,
     output: &mut [u8],
     all: &[Refused],
-) -> Result<(), Fail> {
+) {
     for case in all {
         let Refused(x, y, width, height, inks, room, number) = *case;
         let palette = &PALETTE[0..inks.min(49)];
         let end = room.min(output.len());
         let part = &mut output[0..end];
-        match sheet.window(
-            symmetry,
-            canvas,
-            Cell { x, y },
+        let rectangle = Rectangle {
+            corner: Cell { x, y },
             width,
             height,
-            palette,
-            part,
-        ) {
-            Ok(_) => return Err(Fail::new("a window was drawn")),
-            Err(why) => assert_eq!(rt; why.number(), number),
-        }
+        };
+        let drawn = sheet.window(symmetry, canvas, rectangle, palette, part);
+        assert_eq!(rt; drawn.map_err(|why| why.number()), Err(number));
     }
-    Ok(())
 }
 
 // Each refusal comes before the later ones: a side, the span, the palette, the output. The output stays as it was.
@@ -65,9 +60,8 @@ fn order(rt: HostRuntime) -> Result<(), Fail> {
         Refused(999_873, 999_873, 128, 128, 48, 16, 9),
     ];
     let sheet = OpenSheet::open(&mut canvas);
-    let result = refuses(&rt, &sheet, &symmetry, &canvas, &mut output, &all);
+    refuses(&rt, &sheet, &symmetry, &canvas, &mut output, &all);
     sheet.leave();
-    result?;
     assert_eq!(rt; output, [7; 16]);
     Ok(())
 }
@@ -80,15 +74,19 @@ fn pictures(rt: HostRuntime) -> Result<(), Fail> {
     let mut canvas = SparseCanvas::over(&mut records);
     let mut one = [b'.'; 31];
     let mut other = [b'.'; 31];
-    let corner = Cell { x: 4, y: 2 };
+    let rectangle = Rectangle {
+        corner: Cell { x: 4, y: 2 },
+        width: 3,
+        height: 2,
+    };
     let lent: &[u8] = PALETTE;
     let palette = &lent[0..48];
     let mut open = OpenSheet::open(&mut canvas);
     let _ = open.dot(&symmetry, &mut canvas, Cell { x: 1, y: 2 }, 1);
     let _ = open.dot(&symmetry, &mut canvas, Cell { x: 0, y: 3 }, 15);
-    let drawn = open.window(&symmetry, &canvas, corner, 3, 2, palette, &mut one);
+    let drawn = open.window(&symmetry, &canvas, rectangle, palette, &mut one);
     let closed = open.close(&canvas);
-    let viewed = closed.window(&symmetry, &canvas, corner, 3, 2, palette, &mut other);
+    let viewed = closed.window(&symmetry, &canvas, rectangle, palette, &mut other);
     closed.leave();
     assert_eq!(rt; drawn?, 29);
     assert_eq!(rt; viewed?, 29);
