@@ -206,9 +206,16 @@ impl<'a> Fields<'a> {
         }
     }
 
-    // What was read, if a field is what it has to be.
-    fn is<T: Drop>(&self, wanted: Wanted, read: Option<T>) -> Result<T, Trouble> {
-        match read {
+    // The next field, read as what it has to be.
+    fn read<T, F: FnOnce(&str) -> Option<T> + Drop>(
+        &mut self,
+        wanted: Wanted,
+        parse: F,
+    ) -> Result<T, Trouble>
+        requires { F.IsAlwaysCallable parse }
+    {
+        let text = self.text(wanted)?;
+        match parse(text) {
             Some(value) => Ok(value),
             None => Err(self.trouble(Fault::Other(wanted))),
         }
@@ -227,23 +234,19 @@ impl Read for Fields<'_> {
     }
 
     fn number(&mut self) -> Result<i64, Trouble> {
-        let read = number(self.text(Wanted::Number)?);
-        self.is(Wanted::Number, read)
+        self.read(Wanted::Number, number)
     }
 
     fn short_number(&mut self) -> Result<i32, Trouble> {
-        let read = number(self.text(Wanted::ShortNumber)?);
-        self.is(Wanted::ShortNumber, read.and_then(|n| i32::try_from(n).ok()))
+        self.read(Wanted::ShortNumber, |text: &str| i32::try_from(number(text)?).ok())
     }
 
     fn ink(&mut self) -> Result<u8, Trouble> {
-        let read = number(self.text(Wanted::Ink)?);
-        self.is(Wanted::Ink, read.and_then(|n| u8::try_from(n).ok()))
+        self.read(Wanted::Ink, |text: &str| u8::try_from(number(text)?).ok())
     }
 
     fn size(&mut self) -> Result<usize, Trouble> {
-        let read = size(self.text(Wanted::Size)?);
-        self.is(Wanted::Size, read)
+        self.read(Wanted::Size, size)
     }
 
     fn cell(&mut self) -> Result<Cell, Trouble> {
@@ -277,18 +280,15 @@ impl Read for Fields<'_> {
     }
 
     fn palette(&mut self) -> Result<[u8; 48], Trouble> {
-        let read = palette(self.text(Wanted::Palette)?);
-        self.is(Wanted::Palette, read)
+        self.read(Wanted::Palette, palette)
     }
 
     fn target(&mut self) -> Result<Target, Trouble> {
-        let read = where_to(self.text(Wanted::Target)?);
-        self.is(Wanted::Target, read)
+        self.read(Wanted::Target, where_to)
     }
 
     fn output(&mut self) -> Result<usize, Trouble> {
-        let read = output(self.text(Wanted::Output)?);
-        self.is(Wanted::Output, read)
+        self.read(Wanted::Output, output)
     }
 
     fn trouble(&self, what: Fault) -> Trouble {

@@ -4,8 +4,7 @@
 ghost use Rattle.examples.specs.Examples.{Each, examples};
 
 // Every row of the table holds.
-pub fn examples_hold() -> u8
+pub fn examples_hold()
     ensures { Each examples }
 {
-    0
 }

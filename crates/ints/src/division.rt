@@ -19,10 +19,9 @@ pub fn floor_div(x: i64, p: i64) -> i64
 }
 
 // Remainder and quotient exist, are unique, and tell congruent numbers: the theorems behind the two functions above.
-pub fn floor_laws() -> u8
+pub fn floor_laws()
     ensures exists { FloorExists }
     ensures unique { FloorUnique }
     ensures cong { FloorCong }
 {
-    0
 }
