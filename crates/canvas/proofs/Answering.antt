@@ -1,9 +1,9 @@
 -- What a put answers, and the board that it leaves, case by case.
-use Rattle.std.proofs.Common.{◌≡◌, ℕ, ◌<◌, ◌≤◌, true, false, cond, not, eqb, ltb, Some, None, Ok, Err, Option, ap, ◌∙◌, arith}
-use Rattle.std.proofs.lemmas.Bool.{cond-true, cond-false, eq-eqb, ne_eqb, le-ltb, lt-ltb, le-leb, lt-leb, and_from, and_left, and_right, not_from_true, not_from_false}
+use Rattle.std.proofs.Common.{◌≡◌, ℕ, ◌<◌, ◌≤◌, true, cond, not, eqb, ltb, Some, None, Ok, Err, Option, ap, ◌∙◌, arith}
+use Rattle.std.proofs.lemmas.Bool.{cond-true, cond-false, eq-eqb, ne_eqb, le-ltb, lt-ltb, le-leb, lt-leb, and_from, and_left, and_right, not_from_true}
 use Rattle.plane.specs.declared.cell.Cell.{Cell}
 use Rattle.canvas.specs.declared.refusal.PutRefused.{PutRefused}
-use Rattle.canvas.specs.declared.refusal.PutRefused.TheVariants.{Ink, Frame, Seats}
+use Rattle.canvas.specs.declared.refusal.PutRefused.TheVariants.{Seats}
 use Rattle.canvas.specs.Board.{Board, unseated, put_refusal, put_answer, put_board, answered, unless, with_ink}
 
 -- a put that is refused for a reason leaves the board
@@ -22,12 +22,6 @@ module _ (b : Board) (p : Cell) (ink : ℕ) where
 
   takes : put_refusal b p ink ≡ None → Takes b p ink
   takes e = record { answer = ap answered e; board = ap (λ (o : Option PutRefused). unless o b (with_ink b p ink)) e }
-
-  pub refuses_ink : 15 < ink → Refuses b p ink Ink
-  refuses_ink h = refuses Ink (cond-true (ltb 15 ink) _ _ (lt-ltb 15 ink h))
-
-  pub refuses_frame : ink ≤ 15 → b.frame p ≡ false → Refuses b p ink Frame
-  refuses_frame h o = refuses Frame (cond-false (ltb 15 ink) _ _ (le-ltb 15 ink h) ∙ cond-true (not (b.frame p)) _ _ (not_from_false (b.frame p) o))
 
   module _ (h : ink ≤ 15) (framed : b.frame p ≡ true) where
     by_seat : put_refusal b p ink ≡ cond (unseated b p ink) (Some Seats) None

@@ -65,15 +65,6 @@ tally_room f i (suc n) l z = go (tally_room f i n) (cases_eq i n)
     go old (inl e) = let m : mark (f n) ≡ 0 = mark_zero (f n) (ap f (sym e) ∙ z) in omega (arith, tally_le f n)
     go old (inr e) = let b : tally f n < n = old (omega arith) z in omega (arith, mark_le (f n))
 
--- where one is not, there is one to take
-pub tally_some : (f : ℕ → ℕ) (i n : ℕ) → i < n → (f i ≡ 0 → ⊥) → 0 < tally f n
-tally_some f i zero l z = omega arith
-tally_some f i (suc n) l z = go (tally_some f i n) (cases_eq i n)
-  where
-    go : (i < n → (f i ≡ 0 → ⊥) → 0 < tally f n) → (i ≡ n) ⊎ (i ≡ n → ⊥) → 0 < tally f n + mark (f n)
-    go old (inl e) = let m : mark (f n) ≡ 1 = mark_some (f n) (λ h. z (ap f e ∙ h)) in omega arith
-    go old (inr e) = let b : 0 < tally f n = old (omega arith) z in omega arith
-
 -- the count after a change, from the equation of the tallies
 counted_by : (old new m n : ℕ) → m + mark old ≡ n + mark new → (old ≡ 0) ⊎ (old ≡ 0 → ⊥) → (new ≡ 0) ⊎ (new ≡ 0 → ⊥) → m ≡ held_after old new n
 counted_by old new m n h (inl a) (inl b) =

@@ -32,8 +32,5 @@ row_and_column a p column row k ex ey h =
     let at : k ≡ place a p = h ∙ ap (λ n. n * a.width + column) (sym sy.1) ∙ ap (λ n. nat_abs (p.y -ℤ a.y) * a.width + n) (sym sx.1) in
     record { is = ap (λ n. Some n) at ∙ sym (cond-true (covers a p) _ _ t); within = subst (λ n. n < size a) (sym at) (place_below a p t) }
 
-pub uncovered : (a : Area) (p : Cell) → ◌≡◌ {A = Option ℕ} None (place_if a p) → covers a p ≡ false
-uncovered a p e = cond_none _ _ (sym e)
-
 pub covered : (a : Area) (p : Cell) (i : ℕ) → ◌≡◌ {A = Option ℕ} (Some i) (place_if a p) → (covers a p ≡ true) × (place a p ≡ i)
 covered a p i e = cond_some _ _ _ (sym e)
