@@ -1,7 +1,6 @@
 -- A window whose rectangle, palette and output pass.
-use Rattle.std.proofs.Common.{◌≡◌, ℕ, ◌≤◌, Bool, true, false, cond, not, ◌||◌, eqb, ltb, ℤ, nat_abs, Some, None, Option, sym, refl, ◌∙◌, subst}
+use Rattle.std.proofs.Common.{◌≡◌, ℕ, ◌≤◌, Bool, true, false, cond, not, ◌||◌, eqb, ltb, nat_abs, Some, None, Option, refl, ◌∙◌}
 use Rattle.std.proofs.lemmas.Bool.{eq-eqb, le-ltb}
-use Rattle.plane.specs.declared.cell.Cell.{Cell}
 use Rattle.plane.specs.declared.rectangle.Rectangle.{Rectangle}
 use Rattle.plane.specs.declared.rectangle.RectangleRefused.TheVariants.{Side as NoSide, OffSpan as BeyondSpan}
 use Rattle.plane.specs.Cells.{AllWithin, all_inside}

@@ -1,7 +1,7 @@
 -- The bytes of a window: a binary PPM picture of the cells of a rectangle.
 --     corner    the cell of the rectangle with the least column and the least row
 --     palette   48 bytes: red, green and blue for each of the inks 0 to 15
-use Rattle.std.specs.Prelude.{ℕ, zero, suc, ◌+◌, ◌*◌, ◌/◌, ◌%◌, Bool, cond, not, ◌||◌, List, [], ◌∷◌, ◌++◌, length, take, drop, ℤ, pos, ◌+ℤ◌, Some, None, Ok, Err, Option, Result, ◌==◌, int_lt, nat_lt, slice_index, unsigned_abs}
+use Rattle.std.specs.Prelude.{ℕ, ◌+◌, ◌*◌, ◌/◌, ◌%◌, cond, not, ◌||◌, List, [], ◌∷◌, ◌++◌, length, take, drop, ℤ, Some, None, Ok, Err, Option, Result, ◌==◌, nat_lt, slice_index, unsigned_abs}
 use Rattle.plane.specs.declared.cell.Cell.{Cell}
 use Rattle.plane.specs.Cells.{all_inside}
 use Rattle.plane.specs.Rectangles.{window_cells, wrong_side}

@@ -1,4 +1,4 @@
-use Rattle.std.proofs.Common.{◌≡◌, ◌≤◌, None, length, nat_abs, sym, ap, ◌∙◌, subst, ap₂, refl, arith, rules}
+use Rattle.std.proofs.Common.{◌≡◌, ◌≤◌, None, length, nat_abs, sym, ap, ◌∙◌, subst, refl, arith, rules}
 use Rattle.plane.specs.Cells.{AllWithin}
 use Rattle.plane.specs.Rectangles.{rectangle_refusal, window_cells}
 use Rattle.views.specs.Windows.{header, picture, picture_size, pixels, unless_refused, written_over}
