@@ -23,8 +23,8 @@ struct Drawn {
 // The cell so many steps from a start.
 fn cell(x: i16, y: i16, right: i8, down: i8, steps: u8) -> Cell {
     Cell {
-        x: i64::from(x) + i64::from(right) * i64::from(steps),
-        y: i64::from(y) + i64::from(down) * i64::from(steps),
+        x: x as i64 + right as i64 * steps as i64,
+        y: y as i64 + down as i64 * steps as i64,
     }
 }
 
