@@ -94,7 +94,10 @@ fn read_memory(fields: &mut Fields) -> Result<Memory, Trouble> {
 
 fn read_command(fields: &mut Fields, heap: Global) -> Result<Command, Trouble> {
     match fields.wanted(Wanted::Command)? {
-        Word::Symmetry => Ok(Command::Setting(Setting::Symmetry(fields.symmetry(heap, End::Line)?))),
+        Word::Symmetry => Ok(Command::Setting(Setting::Symmetry(fields.symmetry(
+            heap,
+            End::Line,
+        )?))),
         Word::Canvas => Ok(Command::Setting(Setting::Canvas(read_memory(fields)?))),
         Word::Palette => Ok(Command::Setting(Setting::Palette(fields.palette()?))),
         Word::Open => Ok(Command::Setting(Setting::Open)),

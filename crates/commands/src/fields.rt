@@ -138,7 +138,9 @@ fn number(text: &str) -> Option<i64> {
 
 // A number from 0 to 1,000,000.
 fn size(text: &str) -> Option<usize> {
-    usize::try_from(number(text)?).ok().filter(|n| *n <= 1_000_000)
+    usize::try_from(number(text)?)
+        .ok()
+        .filter(|n| *n <= 1_000_000)
 }
 
 // The value of a hexadecimal digit.
@@ -238,7 +240,10 @@ impl Read for Fields<'_> {
     }
 
     fn short_number(&mut self) -> Result<i32, Trouble> {
-        self.read(Wanted::ShortNumber, |text: &str| i32::try_from(number(text)?).ok())
+        self.read(
+            Wanted::ShortNumber,
+            |text: &str| i32::try_from(number(text)?).ok(),
+        )
     }
 
     fn ink(&mut self) -> Result<u8, Trouble> {

@@ -19,7 +19,10 @@ fn is_known(line: &str) -> bool {
         Some((name, _)) => name,
         None => line,
     };
-    matches!(name, "make" | "fold" | "reduce" | "classes" | "card" | "help")
+    matches!(
+        name,
+        "make" | "fold" | "reduce" | "classes" | "card" | "help"
+    )
 }
 
 // The question that a line asks, if it is neither empty nor a remark.
@@ -40,12 +43,7 @@ fn read(heap: Global, line: &str) -> Result<Option<Question>, Trouble> {
 }
 
 // Prints a question with its answer.
-fn answer(
-    rt: &HostRuntime,
-    line: &str,
-    question: Question,
-    tally: &mut Tally,
-) -> io::Result<()> {
+fn answer(rt: &HostRuntime, line: &str, question: Question, tally: &mut Tally) -> io::Result<()> {
     match question.reply(rt.alloc(), HELP) {
         Ok(reply) => {
             tally.answered();

@@ -6,5 +6,4 @@ ghost use Rattle.examples.specs.Examples.{Each, examples};
 // Every row of the table holds.
 pub fn examples_hold()
     ensures { Each examples }
-{
-}
+{}

@@ -23,5 +23,4 @@ pub fn floor_laws()
     ensures exists { FloorExists }
     ensures unique { FloorUnique }
     ensures cong { FloorCong }
-{
-}
+{}

@@ -46,12 +46,7 @@ impl<'a> Subject<'a> {
 }
 
 // Prints the lines of a record: each call with its answer, which only want of memory leaves out.
-fn tell(
-    teller: &mut Teller,
-    record: &Record,
-    output: &[u8],
-    heading: Heading,
-) -> io::Result<()> {
+fn tell(teller: &mut Teller, record: &Record, output: &[u8], heading: Heading) -> io::Result<()> {
     let closed: &[Viewed] = match &record.viewing {
         Some(viewing) => viewing.as_slice(),
         None => &[],

@@ -6,5 +6,4 @@ pub fn lattice_laws()
     ensures one { OneReduction }
     ensures same { SameLattice }
     ensures boxed { HomesInBox }
-{
-}
+{}
