@@ -136,11 +136,17 @@ fn number(text: &str) -> Option<i64> {
     text.parse::<i64>().ok()
 }
 
+// A whole number that its type takes.
+fn whole<T: TryFrom<i64>>(text: &str) -> Option<T>
+where
+    T::Error: Drop,
+{
+    T::try_from(number(text)?).ok()
+}
+
 // A number from 0 to 1,000,000.
 fn size(text: &str) -> Option<usize> {
-    usize::try_from(number(text)?)
-        .ok()
-        .filter(|n| *n <= 1_000_000)
+    whole::<usize>(text).filter(|n| *n <= 1_000_000)
 }
 
 // The value of a hexadecimal digit.
@@ -240,14 +246,11 @@ impl Read for Fields<'_> {
     }
 
     fn short_number(&mut self) -> Result<i32, Trouble> {
-        self.read(
-            Wanted::ShortNumber,
-            |text: &str| i32::try_from(number(text)?).ok(),
-        )
+        self.read(Wanted::ShortNumber, whole::<i32>)
     }
 
     fn ink(&mut self) -> Result<u8, Trouble> {
-        self.read(Wanted::Ink, |text: &str| u8::try_from(number(text)?).ok())
+        self.read(Wanted::Ink, whole::<u8>)
     }
 
     fn size(&mut self) -> Result<usize, Trouble> {
