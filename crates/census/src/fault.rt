@@ -30,7 +30,7 @@ impl From<RectangleRefused> for WindowFault {
     ghost from_gives = { λ why r. r ≡ Refused why };
 
     fn from(why: RectangleRefused) -> WindowFault {
-        WindowFault::Refused(why)
+        Self::Refused(why)
     }
 }
 
@@ -38,6 +38,6 @@ impl From<AllocError> for WindowFault {
     ghost from_gives = { λ _ r. r ≡ NoMemory };
 
     fn from(_: AllocError) -> WindowFault {
-        WindowFault::NoMemory
+        Self::NoMemory
     }
 }

@@ -87,17 +87,18 @@ impl<'a> Record<'a> {
     fn look(&mut self, look: Look, target: Target) -> Result<Part, AllocError> {
         let room = look.room();
         let sight = Sight { room, target };
-        self.room = self.room.saturating_add(room);
-        match &mut self.viewing {
+        let part = match &mut self.viewing {
             Some(viewing) => {
                 viewing.push(Viewed::of(Viewing::Look(look)))?;
-                Ok(Part::Viewed(sight))
+                Part::Viewed(sight)
             }
             None => {
                 self.drawing.push(Drawn::of(Drawing::Look(look)))?;
-                Ok(Part::Drawn(sight))
+                Part::Drawn(sight)
             }
-        }
+        };
+        self.room = self.room.saturating_add(room);
+        Ok(part)
     }
 
     fn close(&mut self) -> Part {
@@ -118,8 +119,9 @@ impl<'a> Record<'a> {
         }
     }
 
-    // Keeps a call on the sheet, with its line.
+    // Keeps a call on the sheet, with its line. There is memory for the line before the call is kept.
     pub(crate) fn keep_call(&mut self, line: Line<'a>, call: Call) -> Result<(), AllocError> {
+        self.lines.reserve(1)?;
         let part = match call {
             Call::Stroke(stroke) => self.stroke(stroke)?,
             Call::Look(look) => self.look(look, Target::Line)?,

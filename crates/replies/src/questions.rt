@@ -5,8 +5,6 @@ use cards::card::Card;
 use cards::picture::Picture;
 use commands::command::Question;
 use commands::symmetry::Make;
-use groups::rules::GroupRefused;
-use groups::tabled::Tabled;
 use lattice::reduced::reduce;
 use lines::line::Line;
 use plane::symmetry::Symmetry;
@@ -15,13 +13,6 @@ use std::alloc::Global;
 pub trait Ask {
     // The answer; a call for help is answered with the list that is given.
     fn reply(self, heap: Global, help: &'static str) -> Result<Reply, Refusal>;
-}
-
-fn card(heap: Global, made: Result<Tabled, GroupRefused>) -> Result<Reply, Refusal> {
-    match made {
-        Ok(group) => Ok(Reply::Card(Card::of(heap, group)?)),
-        Err(why) => Err(Refusal::Symbol(why)),
-    }
 }
 
 impl Ask for Question {
@@ -34,7 +25,10 @@ impl Ask for Question {
                 Ok(Reply::Classes(Picture::of(heap, &pile, rectangle)?))
             }
             Question::Reduce(vectors) => Ok(Reply::Reduced(reduce(vectors)?)),
-            Question::Card(made) => card(heap, made),
+            Question::Card(made) => {
+                let group = made.map_err(Refusal::Symbol)?;
+                Ok(Reply::Card(Card::of(heap, group)?))
+            }
             Question::Cells { from, to } => Ok(Reply::Cells(Line::between(from, to)?)),
             Question::Help => Ok(Reply::Help(help)),
         }
