@@ -21,7 +21,7 @@ pub struct Card {
 impl Card {
     // The card of a group, with its census.
     pub fn of(heap: Global, group: Tabled) -> Result<Card, WindowFault>
-        ensures { IfOk result (λ c. (c.group ≡ group) × Counted group.number group.p group.q c.census.classes c.census.mirrored) }
+        ensures { IfOk result (λ c. (c.group ≡ group) × Counted group.group.number group.p group.q c.census.classes c.census.mirrored) }
     {
         let census = Census::of(&group);
         let repeat = Rectangle {

@@ -31,7 +31,7 @@ fn repeat(group: &Tabled) -> Window
 // The kinds of a cell that is its own home.
 fn own_kinds(group: &Tabled, at: Cell) -> Option<Kinds>
     requires { Within 1_000_000 at }
-    ensures { MatchOption result (home_in group.now.number group.now.p group.now.q at ≢ at) (λ k. (home_in group.now.number group.now.p group.now.q at ≡ at) × (k ≡ kinds_in group.now.number group.now.p group.now.q at)) }
+    ensures { MatchOption result (home_in group.now.group.number group.now.p group.now.q at ≢ at) (λ k. (home_in group.now.group.number group.now.p group.now.q at ≡ at) × (k ≡ kinds_in group.now.group.number group.now.p group.now.q at)) }
 {
     let fold = group.fold(at).ok()?;
     if fold.home == at {
@@ -44,7 +44,7 @@ fn own_kinds(group: &Tabled, at: Cell) -> Option<Kinds>
 impl Census {
     // The census of a group's repeat: each class has one cell there that is its own home.
     pub fn of(group: &Tabled) -> Census
-        ensures { Counted group.now.number group.now.p group.now.q result.classes result.mirrored }
+        ensures { Counted group.now.group.number group.now.p group.now.q result.classes result.mirrored }
     {
         let mut classes = 0;
         let mut mirrored = 0;

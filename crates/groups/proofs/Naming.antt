@@ -1,11 +1,10 @@
 -- The search for a symbol.
-use Rattle.std.proofs.Common.{◌≡◌, ℕ, zero, suc, ◌+◌, ◌<◌, ◌≤◌, Bool, true, false, cond, T, eqb, List, [], ◌∷◌, map, Some, None, Option, Bor, MatchOption, IfSome, sym, refl, ap, ◌∙◌, add-one, arith, eqb→eq}
+use Rattle.std.proofs.Common.{◌≡◌, ℕ, zero, suc, ◌+◌, ◌≤◌, Bool, true, false, cond, T, eqb, List, [], ◌∷◌, map, Some, None, Option, Bor, MatchOption, sym, refl, ap, ◌∙◌, add-one, arith, eqb→eq}
 use Rattle.std.specs.Prelude.{position}
 use Rattle.std.specs.List.{position_from}
 use Rattle.std.specs.Str.{bytes_eq}
 use Rattle.std.proofs.lemmas.Iterator.Adapters.{position_from-zero}
 use Rattle.std.proofs.lemmas.Slice.Eq.{bytes_eq-Decides}
-use Rattle.groups.specs.Rules.{known}
 use Rattle.groups.specs.Symbols.{symbols, symbol_of, named_from, number_named, SymbolsTell}
 use Rattle.groups.specs.Members.{every_below, below_in}
 use Rattle.groups.proofs.Placing.{known_low, known_high}
@@ -32,18 +31,15 @@ counted_is (t ∷ ts) k s = go (bytes_eq t.now s) (counted_is ts (suc k) s ∙ a
     go true e = refl
     go false e = e
 
-known_next : (i : ℕ) → i < 17 → known (i + 1) ≡ true
-known_next i h = grind arith
-
 -- what the search for a symbol finds
-pub named : (us ts : List (Bor (List ℕ))) (s : List ℕ) (r : Option ℕ) (n : ℕ) → us ≡ ts → r ≡ position (λ t. bytes_eq t.now s) ts → IfSome r (λ i. i < n) → n ≡ 17 → map (λ t. t.now) ts ≡ symbols
-    → MatchOption r (number_named s ≡ 0) (λ i. (i + 1 ≡ number_named s) × (known (i + 1) ≡ true))
-named us ts s r n _ e b l all =
-    go r (sym (all_counted s) ∙ ap (λ (us : List (List ℕ)). counted us 1 s) (sym all) ∙ counted_is ts 0 s ∙ ap number_at (sym (e ∙ position_from-zero (λ t. bytes_eq t.now s) ts))) b
+pub named : (us ts : List (Bor (List ℕ))) (s : List ℕ) (r : Option ℕ) → us ≡ ts → r ≡ position (λ t. bytes_eq t.now s) ts → map (λ t. t.now) ts ≡ symbols
+    → MatchOption r (number_named s ≡ 0) (λ i. i + 1 ≡ number_named s)
+named us ts s r _ e all =
+    go r (sym (all_counted s) ∙ ap (λ (us : List (List ℕ)). counted us 1 s) (sym all) ∙ counted_is ts 0 s ∙ ap number_at (sym (e ∙ position_from-zero (λ t. bytes_eq t.now s) ts)))
   where
-    go : (r : Option ℕ) → number_named s ≡ number_at r → IfSome r (λ i. i < n) → MatchOption r (number_named s ≡ 0) (λ i. (i + 1 ≡ number_named s) × (known (i + 1) ≡ true))
-    go None e b = e
-    go (Some i) e b = (add-one i ∙ sym e, known_next i (omega (arith, b, l)))
+    go : (r : Option ℕ) → number_named s ≡ number_at r → MatchOption r (number_named s ≡ 0) (λ i. i + 1 ≡ number_named s)
+    go None e = e
+    go (Some i) e = add-one i ∙ sym e
 
 -- ---- symbols and numbers agree
 told_test : ℕ → Bool

@@ -1,10 +1,9 @@
 // The seventeen plane groups at given periods, as symmetries.
 #![tactic(auto)]
 
+pub mod plane_group;
 pub mod position;
 pub mod rules;
-mod symbols;
-mod table;
 pub mod tabled;
 #[cfg(test)]
 mod tests;

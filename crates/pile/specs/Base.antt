@@ -6,5 +6,5 @@ use Rattle.pile.specs.declared.base.Base.{Base}
 use Rattle.pile.specs.declared.base.Base.TheVariants.{Tabled, Oblique}
 
 abbrev pub based : Base → Meaning
-based (Tabled t) = tabled t.number t.p t.q
+based (Tabled t) = tabled t.group.number t.p t.q
 based (Oblique o) = oblique o.vectors

@@ -7,5 +7,5 @@ use Rattle.pile.specs.declared.base.Base.TheVariants.{Tabled, Oblique}
 use Rattle.pile.specs.Base.{based}
 
 pub base_laws : (b : Base) → Lawful (based b)
-base_laws (Tabled t) = tabled_laws t.number t.p t.q t.listed t.suited
+base_laws (Tabled t) = tabled_laws t.group.number t.p t.q t.group.listed t.suited
 base_laws (Oblique o) = oblique_laws o.vectors o.short o.apart

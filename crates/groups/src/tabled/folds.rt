@@ -10,9 +10,9 @@ use plane::fold::{Extent, Fold, FoldRefused};
 use plane::symmetry::Symmetry;
 
 impl Symmetry for Tabled {
-    ghost meaning = { λ s. tabled s.number s.p s.q };
+    ghost meaning = { λ s. tabled s.group.number s.p s.q };
 
-    ghost lawful = { λ s. tabled_laws s.number s.p s.q s.listed s.suited };
+    ghost lawful = { λ s. tabled_laws s.group.number s.p s.q s.group.listed s.suited };
 
     fn extent(&self) -> Extent {
         Extent {
@@ -25,7 +25,7 @@ impl Symmetry for Tabled {
         if !at.is_within(1_000_000) {
             return Err(FoldRefused::OffSpan);
         }
-        let cell = Near { group: *self, at };
+        let cell = Near { tabled: *self, at };
         let home = cell.home();
         let kinds = cell.kinds(home);
         Ok(Fold { home, kinds })

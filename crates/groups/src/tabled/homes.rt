@@ -6,7 +6,6 @@ ghost use Rattle.groups.specs.Table.{rows};
 ghost use Rattle.groups.specs.Tabled.{reduced, image, home_in, carries, kinds_in};
 
 use super::super::position::Position;
-use super::super::table::rows;
 use super::Tabled;
 use ints::division::floor_mod;
 use ints::products::dot;
@@ -16,7 +15,7 @@ use plane::kinds::Kinds;
 // A cell within the span of a group.
 #[derive(Clone, Copy)]
 pub(super) struct Near {
-    pub(super) group: Tabled,
+    pub(super) tabled: Tabled,
     pub(super) at: Cell,
     ghost near: { Within 1_000_000 at },
 }
@@ -44,21 +43,21 @@ impl Near {
 
     // The image of the cell under a position, in the repeat.
     fn image(self, by: Position) -> Cell
-        ensures { result ≡ image self.group.p self.group.q self.at by }
+        ensures { result ≡ image self.tabled.p self.tabled.q self.at by }
     {
         let image = Cell {
-            x: self.along(by.a, by.b, by.s, self.group.p),
-            y: self.along(by.c, by.d, by.t, self.group.q),
+            x: self.along(by.a, by.b, by.s, self.tabled.p),
+            y: self.along(by.c, by.d, by.t, self.tabled.q),
         };
-        self.group.reduced(image)
+        self.tabled.reduced(image)
     }
 
     // The least image of the cell in the repeat.
     pub(super) fn home(self) -> Cell
-        ensures { result ≡ home_in self.group.number self.group.p self.group.q self.at }
+        ensures { result ≡ home_in self.tabled.group.number self.tabled.p self.tabled.q self.at }
     {
-        let mut best = self.group.reduced(self.at);
-        for row in rows(self.group.number) {
+        let mut best = self.tabled.reduced(self.at);
+        for row in self.tabled.group.rows() {
             best = best.min(self.image(Position::from(*row)));
         }
         best
@@ -66,9 +65,9 @@ impl Near {
 
     // Whether a position that is improper, or one that is proper, carries the cell to another in the repeat.
     fn carries(self, home: Cell, improper: bool) -> bool
-        ensures { result ≡ some (carries self.group.p self.group.q self.at home improper) (rows self.group.number) }
+        ensures { result ≡ some (carries self.tabled.p self.tabled.q self.at home improper) (rows self.tabled.group.number) }
     {
-        for row in rows(self.group.number) {
+        for row in self.tabled.group.rows() {
             let by = Position::from(*row);
             if by.is_improper() == improper && self.image(by) == home {
                 return true;
@@ -79,8 +78,8 @@ impl Near {
 
     // The kinds of the operations that carry the cell to its home.
     pub(super) fn kinds(self, home: Cell) -> Kinds
-        requires { home ≡ home_in self.group.number self.group.p self.group.q self.at }
-        ensures { result ≡ kinds_in self.group.number self.group.p self.group.q self.at }
+        requires { home ≡ home_in self.tabled.group.number self.tabled.p self.tabled.q self.at }
+        ensures { result ≡ kinds_in self.tabled.group.number self.tabled.p self.tabled.q self.at }
     {
         Kinds {
             even_proper: self.carries(home, false),

@@ -8,5 +8,5 @@ use Rattle.groups.proofs.tabled.homes.Near.carries.Given as goal
 
 abbrev pub invariant-loop-row : goal.invariant-loop-row
 invariant-loop-row l =
-    let test = carries l.self.group.p l.self.group.q l.self.at l.home l.improper in
-    some test (map position_of (drop l.row-index l.row-items)) ≡ some test (rows l.self.group.number)
+    let test = carries l.self.tabled.p l.self.tabled.q l.self.at l.home l.improper in
+    some test (map position_of (drop l.row-index l.row-items)) ≡ some test (rows l.self.tabled.group.number)

@@ -4,4 +4,4 @@ use Rattle.groups.proofs.tabled.homes.Near.home.Goals as goal
 
 pub loop-row-init : goal.loop-row-init
 unfolding home_in
-loop-row-init c = ap₂ (least c.args.self.group.p c.args.self.group.q c.args.self.at) c.reduced-best.ensures c.rows-row-items.ensures
+loop-row-init c = ap₂ (least c.args.self.tabled.p c.args.self.tabled.q c.args.self.at) c.reduced-best.ensures c.rows-row-items.ensures

@@ -5,4 +5,4 @@ use Rattle.groups.specs.Tabled.{least, home_in}
 use Rattle.groups.proofs.tabled.homes.Near.home.Given as goal
 
 abbrev pub invariant-loop-row : goal.invariant-loop-row
-invariant-loop-row l = least l.self.group.p l.self.group.q l.self.at l.best (map position_of (drop l.row-index l.row-items)) ≡ home_in l.self.group.number l.self.group.p l.self.group.q l.self.at
+invariant-loop-row l = least l.self.tabled.p l.self.tabled.q l.self.at l.best (map position_of (drop l.row-index l.row-items)) ≡ home_in l.self.tabled.group.number l.self.tabled.p l.self.tabled.q l.self.at

@@ -8,6 +8,6 @@ use Rattle.groups.proofs.tabled.homes.Near.kinds.Goals as goal
 pub returns : goal.returns
 unfolding kinds_in
 returns c =
-    let s = c.args.self.group in
-    let own = λ (f : Bool). ap (λ (home : Cell). some (carries s.p s.q c.args.self.at home f) (rows s.number)) c.requires in
+    let s = c.args.self.tabled in
+    let own = λ (f : Bool). ap (λ (home : Cell). some (carries s.p s.q c.args.self.at home f) (rows s.group.number)) c.requires in
     λ i. record { even_proper = (c.carries.ensures ∙ own false) i; even_improper = (c.carries-2.ensures ∙ own true) i; odd_proper = false; odd_improper = false }

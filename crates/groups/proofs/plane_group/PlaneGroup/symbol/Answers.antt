@@ -2,7 +2,7 @@ use Rattle.std.proofs.Common.{refl, List, ℕ}
 use denote.Bor.{Bor}
 use lib.ListN.{get_or-map}
 use Rattle.groups.specs.Symbols.{symbols, symbol_of}
-use Rattle.groups.proofs.symbols.symbol.Goals as goal
+use Rattle.groups.proofs.plane_group.PlaneGroup.symbol.Goals as goal
 
 pub returns : goal.returns
 unfolding symbols symbol_of

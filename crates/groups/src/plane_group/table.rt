@@ -1,8 +1,9 @@
 // The table of positions.
-ghost use Rattle.std.specs.Prelude.{◌≡◌, true, map};
-ghost use Rattle.groups.specs.Rules.{known};
+ghost use Rattle.std.specs.Prelude.{◌≡◌, map};
 ghost use Rattle.groups.specs.Positions.{position_of};
 ghost use Rattle.groups.specs.Table.{rows};
+
+use super::PlaneGroup;
 
 // The positions of the seventeen plane groups, a row each: a b c d s t.
 #[rattlefmt::skip]
@@ -98,12 +99,13 @@ const STARTS: [usize; 18] = [
     0, 1, 3, 5, 7, 11, 15, 19, 23, 31, 35, 43, 51, 54, 60, 66, 72, 84,
 ];
 
-// The six numbers of each position of the group.
-pub(crate) fn rows(number: u32) -> &'static [[i8; 6]]
-    requires { known number ≡ true }
-    ensures { map position_of result.now ≡ rows number }
-{
-    let (table, _) = POSITIONS.as_chunks::<6>();
-    let number = number as usize;
-    &table[STARTS[number - 1]..STARTS[number]]
+impl PlaneGroup {
+    // The six numbers of each position of the group.
+    pub(crate) fn rows(self) -> &'static [[i8; 6]]
+        ensures { map position_of result.now ≡ rows self.number }
+    {
+        let (table, _) = POSITIONS.as_chunks::<6>();
+        let number = self.number as usize;
+        &table[STARTS[number - 1]..STARTS[number]]
+    }
 }

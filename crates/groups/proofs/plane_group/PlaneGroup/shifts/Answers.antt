@@ -5,7 +5,7 @@ use Rattle.groups.specs.Lists.{some}
 use Rattle.groups.specs.Positions.{position_of}
 use Rattle.groups.specs.Rules.{shifts_x, shifts_y}
 use Rattle.groups.proofs.Walking.{some-map}
-use Rattle.groups.proofs.rules.shifts.Goals as goal
+use Rattle.groups.proofs.plane_group.PlaneGroup.shifts.Goals as goal
 
 pub returns : goal.returns
 returns c =
