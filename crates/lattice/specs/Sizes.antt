@@ -1,19 +1,15 @@
 -- Sizes: what the tests of two vectors say, and what a step of Euclid's algorithm keeps.
-use Rattle.std.specs.Prelude.{◌≡◌, ℕ, zero, suc, ◌+◌, ◌*◌, ◌/◌, ◌%◌, ◌<◌, ◌≤◌, Bool, true, false, ◌&&◌, [], ◌∷◌, ℤ, pos, negsuc, ◌+ℤ◌, ◌-ℤ◌, ◌*ℤ◌, neg_ℤ, ◌≢◌, nat_le, unsigned_abs, refl}
+use Rattle.std.specs.Prelude.{◌≡◌, ℕ, zero, suc, ◌+◌, ◌*◌, ◌/◌, ◌%◌, ◌<◌, ◌≤◌, true, false, ◌&&◌, [], ◌∷◌, ℤ, pos, negsuc, ◌+ℤ◌, ◌-ℤ◌, ◌*ℤ◌, neg_ℤ, ◌≢◌, nat_le, unsigned_abs, refl}
 use Rattle.std.proofs.Common.{sym, ap, ap₂, ◌∙◌, subst, arith, mul-le-mul, mul-le-mul_right, mod-lt, leb-true}
 use Rattle.std.proofs.Math.Nat.{mod-add-div'}
 use Rattle.std.proofs.lemmas.Int.{ints}
-use Rattle.std.proofs.lemmas.Bool.{eqb-false, both_ways}
+use Rattle.std.proofs.lemmas.Bool.{and_parts, eqb-false}
 use Rattle.ints.proofs.Laws.{abs-mul}
 use Rattle.ints.proofs.Ring.{var, neg, ◌⊕◌, ◌⊖◌, ◌⊗◌, ring, ring_by, hyp}
 use Rattle.lattice.specs.declared.vectors.Vectors.{Vectors}
 use Rattle.lattice.specs.Lattice.{area, small, parallel}
 use Rattle.lattice.specs.Reduction.{upright}
 use Rattle.lattice.specs.Bounds.{Bounded}
-
-both : (a b : Bool) → a && b ≡ true → (a ≡ true) × (b ≡ true)
-both true b e = (refl, e)
-both false b e = (e, absurd (both_ways false refl e))
 
 pub record Small (v : Vectors) : Type 0 where
   pub ax : unsigned_abs v.ax ≤ 256
@@ -23,9 +19,9 @@ pub record Small (v : Vectors) : Type 0 where
 
 pub small_is : (v : Vectors) → small v ≡ true → Small v
 small_is v e =
-    let h = both (nat_le (unsigned_abs v.ax) 256 && nat_le (unsigned_abs v.ay) 256) (nat_le (unsigned_abs v.bx) 256 && nat_le (unsigned_abs v.by) 256) e in
-    let first = both (nat_le (unsigned_abs v.ax) 256) (nat_le (unsigned_abs v.ay) 256) h.0 in
-    let second = both (nat_le (unsigned_abs v.bx) 256) (nat_le (unsigned_abs v.by) 256) h.1 in
+    let h = and_parts (nat_le (unsigned_abs v.ax) 256 && nat_le (unsigned_abs v.ay) 256) (nat_le (unsigned_abs v.bx) 256 && nat_le (unsigned_abs v.by) 256) e in
+    let first = and_parts (nat_le (unsigned_abs v.ax) 256) (nat_le (unsigned_abs v.ay) 256) h.0 in
+    let second = and_parts (nat_le (unsigned_abs v.bx) 256) (nat_le (unsigned_abs v.by) 256) h.1 in
     record {
       ax = leb-true (unsigned_abs v.ax) 256 first.0;
       ay = leb-true (unsigned_abs v.ay) 256 first.1;

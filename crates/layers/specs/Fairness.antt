@@ -1,17 +1,13 @@
 -- What the tests of a shift and of a matrix say.
-use Rattle.std.specs.Prelude.{◌≡◌, ℕ, ◌≤◌, Bool, true, false, ◌&&◌, ℤ, pos, ◌+ℤ◌, ◌-ℤ◌, neg_ℤ, ◌==◌, nat_le, unsigned_abs, refl}
+use Rattle.std.specs.Prelude.{◌≡◌, ℕ, ◌≤◌, true, ◌&&◌, ℤ, pos, ◌+ℤ◌, ◌-ℤ◌, neg_ℤ, ◌==◌, nat_le, unsigned_abs}
 use Rattle.std.proofs.Common.{sym, ap, ◌∙◌, subst, arith, leb-true, eqb-true}
-use Rattle.std.proofs.lemmas.Bool.{both_ways}
+use Rattle.std.proofs.lemmas.Bool.{and_parts}
 use Rattle.std.proofs.lemmas.Int.{ints}
 use Rattle.ints.proofs.Sizes.{z64, through_64, sum_is}
 use Rattle.layers.specs.declared.vector.Vector.{Vector}
 use Rattle.layers.specs.declared.matrix.Matrix.{Matrix}
 use Rattle.layers.specs.Shift.{reach, short}
 use Rattle.layers.specs.Recast.{volume, small, fair}
-
-pub both : (a b : Bool) → a && b ≡ true → (a ≡ true) × (b ≡ true)
-both true b e = (refl, e)
-both false b e = (e, absurd (both_ways false refl e))
 
 pub record Short (w : Vector) : Type 0 where
   pub u : unsigned_abs w.u ≤ 1000
@@ -28,9 +24,9 @@ pub record Small (w : Matrix) : Type 0 where
 
 pub small_is : (w : Matrix) → small w ≡ true → Small w
 small_is w e =
-    let h = both (nat_le (unsigned_abs w.a) 8 && nat_le (unsigned_abs w.b) 8) (nat_le (unsigned_abs w.c) 8 && nat_le (unsigned_abs w.d) 8) e in
-    let first = both (nat_le (unsigned_abs w.a) 8) (nat_le (unsigned_abs w.b) 8) h.0 in
-    let second = both (nat_le (unsigned_abs w.c) 8) (nat_le (unsigned_abs w.d) 8) h.1 in
+    let h = and_parts (nat_le (unsigned_abs w.a) 8 && nat_le (unsigned_abs w.b) 8) (nat_le (unsigned_abs w.c) 8 && nat_le (unsigned_abs w.d) 8) e in
+    let first = and_parts (nat_le (unsigned_abs w.a) 8) (nat_le (unsigned_abs w.b) 8) h.0 in
+    let second = and_parts (nat_le (unsigned_abs w.c) 8) (nat_le (unsigned_abs w.d) 8) h.1 in
     record {
       a = leb-true (unsigned_abs w.a) 8 first.0;
       b = leb-true (unsigned_abs w.b) 8 first.1;
@@ -44,7 +40,7 @@ pub record Fair (w : Matrix) : Type 0 where
 
 pub fair_is : (w : Matrix) → fair w ≡ true → Fair w
 fair_is w e =
-    let h = both (small w) (unsigned_abs (volume w) == 1) e in
+    let h = and_parts (small w) (unsigned_abs (volume w) == 1) e in
     record { small = small_is w h.0; unit = eqb-true (unsigned_abs (volume w)) 1 h.1 }
 
 -- ---- numbers that are passed through 64 bits

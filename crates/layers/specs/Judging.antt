@@ -6,11 +6,11 @@ use Rattle.plane.specs.Meaning.{Meaning, Alike}
 use Rattle.plane.specs.Laws.{Lawful}
 use Rattle.layers.specs.declared.refused.LayerRefused.{LayerRefused}
 use Rattle.layers.specs.Refusals.{roomy, verdict, judged, made_over, settled}
-use Rattle.layers.specs.Fairness.{both}
+use Rattle.std.proofs.lemmas.Bool.{and_parts}
 
 pub roomy_is : (e : Extent) → roomy e ≡ true → (1 ≤ e.span) × (e.hem ≤ 1_000_000_000)
 roomy_is e t =
-    let h = both (nat_le 1 e.span) (nat_le e.hem 1_000_000_000) t in
+    let h = and_parts (nat_le 1 e.span) (nat_le e.hem 1_000_000_000) t in
     (leb-true 1 e.span h.0, leb-true e.hem 1_000_000_000 h.1)
 
 -- an extent that was granted

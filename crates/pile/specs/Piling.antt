@@ -1,7 +1,7 @@
 -- The laws of a pile, its extent and its folds, by induction on its levels.
 use Rattle.std.specs.Prelude.{◌≡◌, Bool, true, false, cond, ◌&&◌, List, [], ◌∷◌, ◌++◌, Ok, Err, Result, ◌==◌, refl}
 use Rattle.std.proofs.Common.{sym, ap, ◌∙◌, subst, eqb-true, eq-eqb}
-use Rattle.std.proofs.lemmas.Bool.{both_ways}
+use Rattle.std.proofs.lemmas.Bool.{and_parts}
 use Rattle.plane.specs.declared.cell.Cell.{Cell}
 use Rattle.plane.specs.declared.fold.Extent.{Extent}
 use Rattle.plane.specs.declared.fold.Fold.{Fold}
@@ -13,13 +13,9 @@ use Rattle.layers.proofs.Passing.{then, passed, layer_laws, extent_layered, laid
 use Rattle.pile.specs.declared.levels.Level.{Level}
 use Rattle.pile.specs.Levels.{piled, same_extent, levelled, top_extent, lowered_by, lowered_through, raised_through}
 
-both : (a b : Bool) → a && b ≡ true → (a ≡ true) × (b ≡ true)
-both true b e = (refl, e)
-both false b e = (e, absurd (both_ways false refl e))
-
 same_extent_is : (e f : Extent) → same_extent e f ≡ true → e ≡ f
 same_extent_is e f t =
-    let h = both (e.span == f.span) (e.hem == f.hem) t in
+    let h = and_parts (e.span == f.span) (e.hem == f.hem) t in
     λ i. record { span = eqb-true e.span f.span h.0 i; hem = eqb-true e.hem f.hem h.1 i }
 
 same_extent_of : (e f : Extent) → e ≡ f → same_extent e f ≡ true
@@ -34,7 +30,7 @@ pile_laws (l ∷ ls) m laws = pile_laws ls (layered l.layer m) (layer_laws l.lay
 pub pile_extent : (ls : List Level) (m : Meaning) → levelled ls m ≡ true → extent_of (piled ls m) ≡ top_extent ls (extent_of m)
 pile_extent [] m t = refl
 pile_extent (l ∷ ls) m t =
-    let h = both (same_extent l.below (extent_of m)) (levelled ls (layered l.layer m)) t in
+    let h = and_parts (same_extent l.below (extent_of m)) (levelled ls (layered l.layer m)) t in
     let e : extent_of m ≡ l.below = sym (same_extent_is l.below (extent_of m) h.0) in
     pile_extent ls (layered l.layer m) h.1 ∙ ap (top_extent ls) (extent_layered l.layer m ∙ ap (λ (x : Extent). settled_extent (layer_extent l.layer x) x) e)
 
@@ -65,7 +61,7 @@ lowered_as l (Err e) = refl
 pub pile_fold : (ls : List Level) (m : Meaning) → Lawful m → levelled ls m ≡ true → (p : Cell) → folded (piled ls m) p ≡ then (lowered_through ls p) (λ q. then (folded m q) (λ f. Ok (raised_through ls f)))
 pile_fold [] m laws t p = as_it_is (folded m p)
 pile_fold (l ∷ ls) m laws t p =
-    let h = both (same_extent l.below (extent_of m)) (levelled ls (layered l.layer m)) t in
+    let h = and_parts (same_extent l.below (extent_of m)) (levelled ls (layered l.layer m)) t in
     let e : extent_of m ≡ l.below = sym (same_extent_is l.below (extent_of m) h.0) in
     let layer = λ (q : Cell). passed l.layer m laws q ∙ ap (λ (x : Extent). then (lowered l.layer x q) (λ z. then (folded m z) (λ f. Ok (raised l.layer x f)))) e in
     pile_fold ls (layered l.layer m) (layer_laws l.layer m laws) h.1 p
@@ -85,7 +81,7 @@ piled_more (k ∷ ls) l m = piled_more ls l (layered k.layer m)
 levelled_more : (ls : List Level) (l : Level) (m : Meaning) → levelled ls m ≡ true → l.below ≡ extent_of (piled ls m) → levelled (ls ++ l ∷ []) m ≡ true
 levelled_more [] l m t e = ap (λ b. b && true) (same_extent_of l.below (extent_of m) e)
 levelled_more (k ∷ ls) l m t e =
-    let h = both (same_extent k.below (extent_of m)) (levelled ls (layered k.layer m)) t in
+    let h = and_parts (same_extent k.below (extent_of m)) (levelled ls (layered k.layer m)) t in
     ap (λ b. b && levelled (ls ++ l ∷ []) (layered k.layer m)) h.0 ∙ levelled_more ls l (layered k.layer m) h.1 e
 
 -- after a try to add a level

@@ -1,6 +1,6 @@
 -- What an answer of fold says, and how to make one.
 use Rattle.std.proofs.Common.{◌≡◌, ℕ, Bool, true, false, ◌&&◌, leb, nat_abs, Ok, Err, sym, refl, ap, ◌∙◌, arith, le-leb, leb-true}
-use borrow.Author.Tests.{both_ways}
+use Rattle.std.proofs.lemmas.Bool.{and_parts, both_ways, false_from_ne_true}
 use Rattle.plane.specs.declared.cell.Cell.{Cell}
 use Rattle.plane.specs.declared.fold.Fold.{Fold}
 use Rattle.plane.specs.declared.fold.FoldRefused.{FoldRefused}
@@ -9,13 +9,9 @@ use Rattle.plane.specs.Cells.{inside, Within}
 use Rattle.plane.specs.Meaning.{Meaning, answer, folded}
 use Rattle.plane.specs.Laws.{Lawful}
 
-both : (a b : Bool) → a && b ≡ true → (a ≡ true) × (b ≡ true)
-both true b e = (refl, e)
-both false b e = (e, absurd (both_ways false refl e))
-
 pub inside_within : (n : ℕ) (p : Cell) → inside n p ≡ true → Within n p
 inside_within n p e =
-    let h = both (leb (nat_abs p.x) n) (leb (nat_abs p.y) n) e in
+    let h = and_parts (leb (nat_abs p.x) n) (leb (nat_abs p.y) n) e in
     (leb-true (nat_abs p.x) n h.0, leb-true (nat_abs p.y) n h.1)
 
 pub within_inside : (n : ℕ) (p : Cell) → Within n p → inside n p ≡ true
@@ -26,11 +22,7 @@ pub outside : (n : ℕ) (p : Cell) → inside n p ≡ false → Within n p → �
 outside n p e w = both_ways (inside n p) e (within_inside n p w)
 
 pub without_inside : (n : ℕ) (p : Cell) → (Within n p → ⊥) → inside n p ≡ false
-without_inside n p h = go (inside n p) refl
-  where
-    go : (b : Bool) → inside n p ≡ b → inside n p ≡ false
-    go true e = absurd (h (inside_within n p e))
-    go false e = e
+without_inside n p h = false_from_ne_true (inside n p) (λ e. h (inside_within n p e))
 
 answered : (b : Bool) (f a : Fold) → Ok a ≡ answer b f → (b ≡ true) × (a ≡ f)
 answered true f a e = (refl, cc)

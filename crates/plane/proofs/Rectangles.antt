@@ -1,6 +1,6 @@
 -- The cells of a rectangle: how many they are, and that all are within a bound exactly if the corner and the cell opposite to it are.
-use Rattle.std.proofs.Common.{◌≡◌, ℕ, zero, suc, ◌+◌, ◌*◌, ◌<◌, Bool, true, false, ◌&&◌, ◌⊎◌, List, [], ◌∷◌, ◌++◌, length, sym, refl, ap, ◌∙◌, subst, inl, inr, mul-suc, add-one, arith, length-append}
-use Rattle.std.proofs.lemmas.Bool.{cases_eq}
+use Rattle.std.proofs.Common.{◌≡◌, ℕ, zero, suc, ◌+◌, ◌*◌, ◌<◌, true, ◌&&◌, ◌⊎◌, List, [], ◌∷◌, ◌++◌, length, sym, refl, ap, ◌∙◌, subst, inl, inr, mul-suc, add-one, arith, length-append}
+use Rattle.std.proofs.lemmas.Bool.{and_parts, cases_eq}
 use Rattle.plane.specs.declared.cell.Cell.{Cell}
 use Rattle.plane.specs.Cells.{AllWithin, Within, all_inside, inside}
 use Rattle.plane.proofs.Folding.{inside_within, within_inside}
@@ -89,13 +89,9 @@ pub window_at : (bound : ℕ) (corner : Cell) (width n : ℕ) → AllWithin boun
 window_at bound corner width n a i j h k = row_at bound corner j width (window_row bound corner width n a j k) i h
 
 -- ---- as tests
-both_true : (a b : Bool) → a && b ≡ true → (a ≡ true) × (b ≡ true)
-both_true true b e = (refl, e)
-both_true false b e = (e, cc)
-
 pub all_within : (n : ℕ) (ps : List Cell) → all_inside n ps ≡ true → AllWithin n ps
 all_within n [] e = tt
-all_within n (p ∷ ps) e = let t = both_true (inside n p) (all_inside n ps) e in (inside_within n p t.0, all_within n ps t.1)
+all_within n (p ∷ ps) e = let t = and_parts (inside n p) (all_inside n ps) e in (inside_within n p t.0, all_within n ps t.1)
 
 pub within_all : (n : ℕ) (ps : List Cell) → AllWithin n ps → all_inside n ps ≡ true
 within_all n [] a = refl
