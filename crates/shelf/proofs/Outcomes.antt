@@ -5,9 +5,9 @@ use Rattle.std.specs.List.{insert, remove}
 use Rattle.std.specs.Result.{result_ok}
 use Rattle.std.proofs.lemmas.List.{places, same_lists, take_at, drop_at, drop-set-lt, get_or-set_same, length-take-le, get_or-take}
 use Rattle.std.proofs.lemmas.List.Edits.{length-insert, length-remove}
-use Rattle.std.proofs.lemmas.Bool.{or_left, or_right, or_from, lt-ltb, le-ltb, cases_eq}
+use Rattle.std.proofs.lemmas.Bool.{or_left, or_right, lt-ltb, cases_eq}
 use Rattle.shelf.specs.Keys.{Keys, Sorted, rank, found, located}
-use Rattle.shelf.specs.Changes.{Stored, Refused, Removed}
+use Rattle.shelf.specs.Changes.{Stored, Removed}
 use Rattle.shelf.proofs.Finds.{found_known, stored_known, stored_unknown, taken_known}
 use Rattle.shelf.proofs.Shifts.{opened, closed}
 
@@ -77,13 +77,6 @@ module _ {R K : Type 0} (keys : Keys R K) (xs : List R) (n m : ℕ) (few : n ≤
             let f = subst (λ v. (is_some (found keys v (take n xs)) ≡ false) × (at ≡ rank keys v (take n xs))) ek (missed_at k at is) in
             ap (λ v. take (n + 1) v) whole ∙ take_at _ _ (n + 1) long ∙ ap (λ i. insert (take n xs) i r) f.1 ∙ sym (stored_unknown keys r (take n xs) f.0);
       }
-
-  -- a new key where every record is held
-  pub refused : (r : R) (k : K) (at : ℕ) → k ≡ keys.key r → n ≡ length xs → Missed k at → Refused keys r n xs xs
-  refused r k at ek full is = record {
-    same = refl;
-    full = or_from _ _ (subst (λ v. is_some (found keys v (take n xs)) ≡ false) ek (missed_at k at is).0) (le-ltb (length (take n xs)) (length xs) (omega (arith, held_length)));
-  }
 
   -- the record of a known key
   pub gone : (k : K) (at : ℕ) (x : R) (ys : List R) → at < length (take m xs) → x ≡ get_or xs at x → ys ≡ paste xs at (drop (at + 1) xs) (n - (at + 1)) → Found k at → Removed keys k n xs ys x

@@ -14,23 +14,14 @@ use Rattle.shelf.specs.Keys.{Keys, TotalOrder, leads, sorted, Sorted, rank, foun
 module _ {R K : Type 0} (keys : Keys R K) where
   -- a key that is before all is before each
   leads_at : (k : K) (xs : List R) (i : ℕ) (d : R) → leads keys k xs ≡ true → i < length xs → keys.before k (keys.key (get_or xs i d)) ≡ true
-  leads_at k [] i d h l = absurd (none i l)
-    where
-      none : (i : ℕ) → i < 0 → ⊥
-      none i l = omega arith
+  leads_at k [] i d h l = absurd (omega arith)
   leads_at k (x ∷ xs) zero d h l = (and_parts _ _ h).0
   leads_at k (x ∷ xs) (suc i) d h l = leads_at k xs i d (and_parts _ _ h).1 (omega arith)
 
   -- in a sorted list, each key is before the later ones
   sorted_before : (xs : List R) (i j : ℕ) (d : R) → Sorted keys xs → i < j → j < length xs → keys.before (keys.key (get_or xs i d)) (keys.key (get_or xs j d)) ≡ true
-  sorted_before [] i j d s l m = absurd (none j m)
-    where
-      none : (j : ℕ) → j < 0 → ⊥
-      none j m = omega arith
-  sorted_before (x ∷ xs) i zero d s l m = absurd (none i l)
-    where
-      none : (i : ℕ) → i < 0 → ⊥
-      none i l = omega arith
+  sorted_before [] i j d s l m = absurd (omega arith)
+  sorted_before (x ∷ xs) i zero d s l m = absurd (omega arith)
   sorted_before (x ∷ xs) zero (suc j) d s l m = leads_at (keys.key x) xs j d (and_parts (leads keys (keys.key x) xs) (sorted keys xs) s).0 (omega arith)
   sorted_before (x ∷ xs) (suc i) (suc j) d s l m = sorted_before xs i j d (and_parts (leads keys (keys.key x) xs) (sorted keys xs) s).1 (omega arith) (omega arith)
 
@@ -72,10 +63,7 @@ module _ {R K : Type 0} (keys : Keys R K) where
 
     -- the record with the key k is the one that is found, at the rank of k
     known_at : (k : K) (xs : List R) (i : ℕ) → Sorted keys xs → i < length xs → HoldsAt (λ x. (keys.before (keys.key x) k ≡ false) × (keys.before k (keys.key x) ≡ false)) xs i → (is_some (found keys k xs) ≡ true) × (i ≡ rank keys k xs)
-    known_at k [] i s l h = absurd (none i l)
-      where
-        none : (i : ℕ) → i < 0 → ⊥
-        none i l = omega arith
+    known_at k [] i s l h = absurd (omega arith)
     known_at k (x ∷ xs) zero s l h = let t = h x in (ap is_some (cond-false _ _ _ t.0 ∙ cond-false _ _ _ t.1), sym (rank_none k x xs t.0))
     known_at k (x ∷ xs) (suc i) s l h =
         let t = h x in

@@ -1,12 +1,9 @@
 use Rattle.std.proofs.Common.{◌-◌, ◌<◌, length, arith}
-use Rattle.shelf.proofs.Outcomes.{written, added, refused}
+use Rattle.shelf.proofs.Outcomes.{written, added}
 use Rattle.shelf.proofs.slices.insert.Goals as goal
 
 pub returns-in-Ok : goal.returns-in-Ok
 returns-in-Ok g c = written g.R.Record.keys c.args.records.now c.args.count (c.args.count - 0) c.requires.fits c.requires.sorted (omega arith) c.args.item c.key.result c.in-Ok.at c.key.ensures c.in-Ok.ensures.within c.in-Ok.ensures.is
-
-pub returns-then-count-records : goal.returns-then-count-records
-returns-then-count-records g c = refused g.R.Record.keys c.args.records.now c.args.count (c.args.count - 0) c.requires.fits c.requires.sorted (omega arith) c.args.item c.key.result c.in-Err.at c.key.ensures c.if-count-records.true c.in-Err.ensures.is
 
 pub returns-else-count-records : goal.returns-else-count-records
 returns-else-count-records g c =

@@ -1,12 +1,5 @@
-use Rattle.std.proofs.Common.{refl}
-use Rattle.shelf.proofs.Moving.{stays_in_order, went_in, kept_out}
+use Rattle.shelf.proofs.Moving.{stays_in_order}
 use Rattle.shelf.proofs.shelf.Shelf.insert.Goals as goal
 
 pub invariant_of-self-2 : goal.invariant_of-self-2
 invariant_of-self-2 g c = record { fits = c.in_ok-self.ensures.few; sorted = stays_in_order g.R.Record.keys g.met.R.Record.total c.args.self.now.count c.args.self.now.records.now c.insert.new.records c.args.self.now.sorted c.args.item c.in_ok-self.field-0 c.in_ok-self.ensures }
-
-pub returns : goal.returns
-returns g c = went_in c.args.self.now c.args.item c.insert.auto.records c.in_ok-self.ensures
-
-pub returns-in_err-self : goal.returns-in_err-self
-returns-in_err-self g c = kept_out c.args.self.now c.args.item c.from_residual.result c.from_residual.ensures.0 refl c.in_err-self.ensures
