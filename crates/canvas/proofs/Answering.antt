@@ -1,10 +1,10 @@
 -- What a put answers, and the board that it leaves, case by case.
-use Rattle.std.proofs.Common.{◌≡◌, ℕ, ◌<◌, ◌≤◌, true, cond, not, eqb, ltb, Some, None, Ok, Err, Option, ap, ◌∙◌, arith}
-use Rattle.std.proofs.lemmas.Bool.{cond-true, cond-false, eq-eqb, ne_eqb, le-ltb, lt-ltb, le-leb, lt-leb, and_from, and_left, and_right, not_from_true}
+use Rattle.std.proofs.Common.{◌≡◌, ℕ, ◌<◌, ◌≤◌, true, Some, None, Ok, Err, Option, ap, arith}
+use Rattle.std.proofs.lemmas.Bool.Decides.{nat_tests}
 use Rattle.plane.specs.declared.cell.Cell.{Cell}
 use Rattle.canvas.specs.declared.refusal.PutRefused.{PutRefused}
 use Rattle.canvas.specs.declared.refusal.PutRefused.TheVariants.{Seats}
-use Rattle.canvas.specs.Board.{Board, unseated, put_refusal, put_answer, put_board, answered, unless, with_ink}
+use Rattle.canvas.specs.Board.{Board, put_refusal, put_answer, put_board, answered, unless, with_ink}
 
 -- a put that is refused for a reason leaves the board
 pub record Refuses (b : Board) (p : Cell) (ink : ℕ) (why : PutRefused) : Type 0 where
@@ -24,19 +24,16 @@ module _ (b : Board) (p : Cell) (ink : ℕ) where
   takes e = record { answer = ap answered e; board = ap (λ (o : Option PutRefused). unless o b (with_ink b p ink)) e }
 
   module _ (h : ink ≤ 15) (framed : b.frame p ≡ true) where
-    by_seat : put_refusal b p ink ≡ cond (unseated b p ink) (Some Seats) None
-    by_seat = cond-false (ltb 15 ink) _ _ (le-ltb 15 ink h) ∙ cond-false (not (b.frame p)) _ _ (not_from_true (b.frame p) framed)
-
     pub refuses_seats : 0 < ink → b.inks p ≡ 0 → b.seats ≤ b.held → Refuses b p ink Seats
-    refuses_seats some bare full = refuses Seats (by_seat ∙ cond-true (unseated b p ink) _ _ (and_from _ _ (lt-ltb 0 ink some) (and_from _ _ (eq-eqb (b.inks p) 0 bare) (le-leb b.seats b.held full))))
+    refuses_seats some bare full = refuses Seats (grind (arith, nat_tests))
 
     -- ink 0 needs no seat
     pub takes_bare : ink ≡ 0 → Takes b p ink
-    takes_bare z = takes (by_seat ∙ cond-false (unseated b p ink) _ _ (and_left _ _ (le-ltb 0 ink (omega arith))))
+    takes_bare z = takes (grind (arith, nat_tests))
 
     -- nor does a held cell
     pub takes_held : (b.inks p ≡ 0 → ⊥) → Takes b p ink
-    takes_held some = takes (by_seat ∙ cond-false (unseated b p ink) _ _ (and_right (ltb 0 ink) _ (and_left _ _ (ne_eqb (b.inks p) 0 some))))
+    takes_held some = takes (grind (arith, nat_tests))
 
     pub takes_free : b.held < b.seats → Takes b p ink
-    takes_free room = takes (by_seat ∙ cond-false (unseated b p ink) _ _ (and_right (ltb 0 ink) _ (and_right (eqb (b.inks p) 0) _ (lt-leb b.seats b.held room))))
+    takes_free room = takes (grind (arith, nat_tests))

@@ -1,6 +1,7 @@
 -- A put and a clearing keep the laws of a board.
-use Rattle.std.proofs.Common.{◌≡◌, ℕ, ◌+◌, ◌-◌, ◌<◌, ◌≤◌, true, eqb, ◌⊎◌, ◌↔◌, List, [], ◌∷◌, length, sym, refl, ◌∙◌, subst, inl, inr, arith}
-use Rattle.std.proofs.lemmas.Bool.{cond-true, cond-false, cases_eq, eq-eqb, ne_eqb}
+use Rattle.std.proofs.Common.{◌≡◌, ℕ, ◌+◌, ◌-◌, ◌<◌, ◌≤◌, true, ◌⊎◌, ◌↔◌, List, [], ◌∷◌, length, sym, refl, ◌∙◌, subst, inl, inr, arith}
+use Rattle.std.proofs.lemmas.Bool.{cond-true, cond-false, cases_eq}
+use Rattle.std.proofs.lemmas.Bool.Decides.{nat_tests}
 use Rattle.plane.specs.declared.cell.Cell.{Cell}
 use Rattle.plane.specs.Cells.{same}
 use Rattle.canvas.specs.Board.{Board, BoardLaws, with_ink, held_after, cleared}
@@ -40,22 +41,16 @@ module _ (b : Board) (p : Cell) (j : ℕ) where
     counted_by : (b.inks p ≡ 0) ⊎ (b.inks p ≡ 0 → ⊥) → (j ≡ 0) ⊎ (j ≡ 0 → ⊥) → Counted
     counted_by (inl a) (inl z) =
         let t = laws.counted in
-        let same : held_after (b.inks p) j b.held ≡ b.held = cond-true (eqb (b.inks p) 0) _ _ (eq-eqb (b.inks p) 0 a) ∙ cond-true (eqb j 0) _ _ (eq-eqb j 0 z) in
-        (t.0, lists_like (Marked b) (Marked after) t.0 (unmoved (λ k. absurd (no_zero (b.inks p) k a), λ k. absurd (no_zero j k z))) t.1, t.2 ∙ sym same)
-      where
-        no_zero : (n : ℕ) → 0 < n → n ≡ 0 → ⊥
-        no_zero n k e = omega arith
+        let same : held_after (b.inks p) j b.held ≡ b.held = grind (arith, nat_tests) in
+        (t.0, lists_like (Marked b) (Marked after) t.0 (unmoved (λ k. absurd (omega arith), λ k. absurd (omega arith))) t.1, t.2 ∙ sym same)
     counted_by (inl a) (inr z) =
         let t = laws.counted in
-        let more : held_after (b.inks p) j b.held ≡ b.held + 1 = cond-true (eqb (b.inks p) 0) _ _ (eq-eqb (b.inks p) 0 a) ∙ cond-false (eqb j 0) _ _ (ne_eqb j 0 z) in
-        let new : Member p t.0 → ⊥ = λ m. no_zero (b.inks p) ((t.1.exact p).0 m) a in
+        let more : held_after (b.inks p) j b.held ≡ b.held + 1 = grind (arith, nat_tests) in
+        let new : Member p t.0 → ⊥ = λ m. let k : 0 < b.inks p = (t.1.exact p).0 m in omega arith in
         (p ∷ t.0, record { distinct = (new, t.1.distinct); exact = λ q. (λ m. forth q t.0 (t.1.exact q).0 m (either q), λ k. back q t.0 (t.1.exact q).1 k (either q)) }, long t.0 t.2 ∙ sym more)
       where
-        no_zero : (n : ℕ) → 0 < n → n ≡ 0 → ⊥
-        no_zero n k e = omega arith
-
         some : 0 < j
-        some = let h : j ≡ 0 → ⊥ = z in omega arith
+        some = omega arith
 
         long : (qs : List Cell) → length qs ≡ b.held → length (p ∷ qs) ≡ b.held + 1
         long qs e = omega arith
@@ -72,14 +67,11 @@ module _ (b : Board) (p : Cell) (j : ℕ) where
     counted_by (inr a) (inl z) =
         let t = laws.counted in
         let mem : Member p t.0 = (t.1.exact p).1 some in
-        let less : held_after (b.inks p) j b.held ≡ b.held - 1 = cond-false (eqb (b.inks p) 0) _ _ (ne_eqb (b.inks p) 0 a) ∙ cond-true (eqb j 0) _ _ (eq-eqb j 0 z) in
+        let less : held_after (b.inks p) j b.held ≡ b.held - 1 = grind (arith, nat_tests) in
         (without p t.0 mem, record { distinct = distinct_rest p t.0 mem t.1.distinct; exact = λ q. (λ m. forth q t.0 (t.1.exact q).0 (within_rest p t.0 mem t.1.distinct q m) (either q), λ k. back q t.0 mem (t.1.exact q).1 k (either q)) }, short t.0 mem t.2 ∙ sym less)
       where
-        no_zero : (n : ℕ) → 0 < n → n ≡ 0 → ⊥
-        no_zero n k e = omega arith
-
         some : 0 < b.inks p
-        some = let h : b.inks p ≡ 0 → ⊥ = a in omega arith
+        some = omega arith
 
         short : (qs : List Cell) (m : Member p qs) → length qs ≡ b.held → length (without p qs m) ≡ b.held - 1
         short qs m e = omega (arith, length_without p qs m)
@@ -89,37 +81,22 @@ module _ (b : Board) (p : Cell) (j : ℕ) where
         forth q qs f m (inr d) = subst (λ n. 0 < n) (sym d.1) (f m.0)
 
         back : (q : Cell) (qs : List Cell) (m : Member p qs) → (0 < b.inks q → Member q qs) → Marked after q → ((q ≡ p) × (after.inks q ≡ j)) ⊎ ((q ≡ p → ⊥) × (after.inks q ≡ b.inks q)) → Member q (without p qs m)
-        back q qs m f k (inl d) = absurd (no_zero j (subst (λ n. 0 < n) d.1 k) z)
+        back q qs m f k (inl d) = absurd (let l : 0 < j = subst (λ n. 0 < n) d.1 k in omega arith)
         back q qs m f k (inr d) = stays p qs m q d.0 (f (subst (λ n. 0 < n) d.1 k))
     counted_by (inr a) (inr z) =
         let t = laws.counted in
-        let same : held_after (b.inks p) j b.held ≡ b.held = cond-false (eqb (b.inks p) 0) _ _ (ne_eqb (b.inks p) 0 a) ∙ cond-false (eqb j 0) _ _ (ne_eqb j 0 z) in
+        let same : held_after (b.inks p) j b.held ≡ b.held = grind (arith, nat_tests) in
         (t.0, lists_like (Marked b) (Marked after) t.0 (unmoved (λ _. some j z, λ _. some (b.inks p) a)) t.1, t.2 ∙ sym same)
       where
         some : (n : ℕ) → (n ≡ 0 → ⊥) → 0 < n
         some n h = omega arith
-
-    room_after : (0 < j → b.inks p ≡ 0 → b.held < b.seats) → (b.inks p ≡ 0) ⊎ (b.inks p ≡ 0 → ⊥) → (j ≡ 0) ⊎ (j ≡ 0 → ⊥) → after.held ≤ b.seats
-    room_after room (inl a) (inl z) = subst (λ n. n ≤ b.seats) (sym (cond-true (eqb (b.inks p) 0) _ _ (eq-eqb (b.inks p) 0 a) ∙ cond-true (eqb j 0) _ _ (eq-eqb j 0 z))) laws.seated
-    room_after room (inl a) (inr z) = subst (λ n. n ≤ b.seats) (sym (cond-true (eqb (b.inks p) 0) _ _ (eq-eqb (b.inks p) 0 a) ∙ cond-false (eqb j 0) _ _ (ne_eqb j 0 z))) (fits (room some a))
-      where
-        some : 0 < j
-        some = let h : j ≡ 0 → ⊥ = z in omega arith
-
-        fits : b.held < b.seats → b.held + 1 ≤ b.seats
-        fits h = omega arith
-    room_after room (inr a) (inl z) = subst (λ n. n ≤ b.seats) (sym (cond-false (eqb (b.inks p) 0) _ _ (ne_eqb (b.inks p) 0 a) ∙ cond-true (eqb j 0) _ _ (eq-eqb j 0 z))) (fits laws.seated)
-      where
-        fits : b.held ≤ b.seats → b.held - 1 ≤ b.seats
-        fits h = omega arith
-    room_after room (inr a) (inr z) = subst (λ n. n ≤ b.seats) (sym (cond-false (eqb (b.inks p) 0) _ _ (ne_eqb (b.inks p) 0 a) ∙ cond-false (eqb j 0) _ _ (ne_eqb j 0 z))) laws.seated
 
     pub put_laws : j ≤ 15 → b.frame p ≡ true → (0 < j → b.inks p ≡ 0 → b.held < b.seats) → BoardLaws (with_ink b p j)
     put_laws small framed room = record {
       small = λ q. bounded q (either q);
       framed = λ q k. inside q k (either q);
       counted = counted_by (cases_eq (b.inks p) 0) (cases_eq j 0);
-      seated = room_after room (cases_eq (b.inks p) 0) (cases_eq j 0);
+      seated = let k = laws.seated in grind (arith, nat_tests);
     }
       where
         bounded : (q : Cell) → ((q ≡ p) × (after.inks q ≡ j)) ⊎ ((q ≡ p → ⊥) × (after.inks q ≡ b.inks q)) → after.inks q ≤ 15
@@ -133,10 +110,7 @@ module _ (b : Board) (p : Cell) (j : ℕ) where
 pub cleared_laws : (b : Board) → BoardLaws (cleared b)
 cleared_laws b = record {
   small = λ q. omega arith;
-  framed = λ q k. absurd (never k);
-  counted = ([], record { distinct = tt; exact = λ q. (λ m. absurd m, λ k. never k) }, refl);
+  framed = λ q k. absurd (omega arith);
+  counted = ([], record { distinct = tt; exact = λ q. (λ m. absurd m, λ k. omega arith) }, refl);
   seated = omega arith;
 }
-  where
-    never : 0 < 0 → ⊥
-    never k = omega arith

@@ -99,18 +99,12 @@ module _ {R : Type 0} (cell : R → Cell) (ink : R → ℕ) (frame : Cell → Bo
   -- and what is found is the cell of a record
   cell_found : (p : Cell) (rs : List R) → 0 < ink_of cell ink frame (found (keys cell ink frame) p rs) → Member p (cells rs)
   unfolding cells
-  cell_found p [] h = absurd (never h)
-    where
-      never : 0 < 0 → ⊥
-      never l = omega arith
+  cell_found p [] h = absurd (omega arith)
   cell_found p (r ∷ rs) h = go (earlier (cell r) p) (earlier p (cell r)) refl refl (cell_found p rs) h
     where
-      never : 0 < 0 → ⊥
-      never l = omega arith
-
       go : (a b : Bool) → earlier (cell r) p ≡ a → earlier p (cell r) ≡ b → (0 < ink_of cell ink frame (found (keys cell ink frame) p rs) → Member p (cells rs)) → 0 < ink_of cell ink frame (cond a (found (keys cell ink frame) p rs) (cond b None (Some r))) → (p ≡ cell r) ⊎ Member p (cells rs)
       go true b ea eb more h = inr (more h)
-      go false true ea eb more h = absurd (never h)
+      go false true ea eb more h = absurd (omega arith)
       go false false ea eb more h = inl (sym (earlier-same (cell r) p ea eb))
 
   -- a cell has no record, or a sound one
@@ -142,8 +136,5 @@ module _ {R : Type 0} (cell : R → Cell) (ink : R → ℕ) (frame : Cell → Bo
       small p (inr f) = let z : ink_of cell ink frame (found (keys cell ink frame) p rs) ≡ ink f.0 = ap (ink_of cell ink frame) f.1 in omega (arith, f.3.small)
 
       framed : (p : Cell) → 0 < ink_of cell ink frame (found (keys cell ink frame) p rs) → Told p rs → frame p ≡ true
-      framed p l (inl e) = absurd (never (subst (λ (o : Option R). 0 < ink_of cell ink frame o) e l))
-        where
-          never : 0 < 0 → ⊥
-          never l = omega arith
+      framed p l (inl e) = absurd (let z : ink_of cell ink frame (found (keys cell ink frame) p rs) ≡ 0 = ap (ink_of cell ink frame) e in omega arith)
       framed p l (inr f) = subst (λ (q : Cell). frame q ≡ true) f.2 f.3.framed

@@ -1,6 +1,7 @@
 -- What storing and taking a record does to the board of the records.
-use Rattle.std.proofs.Common.{◌≡◌, ℕ, ◌+◌, ◌-◌, ◌<◌, Bool, true, false, cond, eqb, ltb, ◌⊎◌, List, length, is_some, Option, sym, ap, ◌∙◌, subst, inl, inr, arith}
-use Rattle.std.proofs.lemmas.Bool.{cond-true, cond-false, eq-eqb, ne_eqb, or_cases, or_parts, ltb-true, ltb-false}
+use Rattle.std.proofs.Common.{◌≡◌, ℕ, ◌+◌, ◌<◌, Bool, true, false, cond, ltb, ◌⊎◌, List, length, is_some, Option, sym, ap, ◌∙◌, subst, inl, inr, arith}
+use Rattle.std.proofs.lemmas.Bool.{cond-true, cond-false, or_cases, or_parts, both_ways, ltb-true, ltb-false}
+use Rattle.std.proofs.lemmas.Bool.Decides.{nat_tests}
 use Rattle.plane.specs.declared.cell.Cell.{Cell}
 use Rattle.plane.specs.Cells.{same}
 use Rattle.shelf.specs.Keys.{Sorted, found, stored, taken}
@@ -17,25 +18,16 @@ use Rattle.canvas.proofs.Recorded.{cells_ordered, Sound, all_sound_is, is_all_so
 
 -- the count once an ink has changed, where the old ink is none or some, and the new one
 held_none : (old n : ℕ) → old ≡ 0 → n ≡ held_after old 0 n
-held_none old n e = sym (cond-true (eqb old 0) _ _ (eq-eqb old 0 e))
+held_none old n e = grind (arith, nat_tests)
 
 held_more : (old new n : ℕ) → old ≡ 0 → 0 < new → n + 1 ≡ held_after old new n
-held_more old new n e l = sym (cond-true (eqb old 0) _ _ (eq-eqb old 0 e) ∙ cond-false (eqb new 0) _ _ (ne_eqb new 0 (λ z. clash z)))
-  where
-    clash : new ≡ 0 → ⊥
-    clash z = omega arith
+held_more old new n e l = grind (arith, nat_tests)
 
 held_same : (old new n : ℕ) → (old ≡ 0 → ⊥) → 0 < new → n ≡ held_after old new n
-held_same old new n e l = sym (cond-false (eqb old 0) _ _ (ne_eqb old 0 e) ∙ cond-false (eqb new 0) _ _ (ne_eqb new 0 (λ z. clash z)))
-  where
-    clash : new ≡ 0 → ⊥
-    clash z = omega arith
+held_same old new n e l = grind (arith, nat_tests)
 
 held_less : (old n m : ℕ) → (old ≡ 0 → ⊥) → m + 1 ≡ n → m ≡ held_after old 0 n
-held_less old n m e l = less ∙ sym (cond-false (eqb old 0) _ _ (ne_eqb old 0 e))
-  where
-    less : m ≡ n - 1
-    less = omega arith
+held_less old n m e l = grind (arith, nat_tests)
 
 module _ {R : Type 0} (cell : R → Cell) (ink : R → ℕ) (frame : Cell → Bool) (rs : List R) (n : ℕ) (s : Sorted (keys cell ink frame) rs) (h : all_sound cell ink frame rs ≡ true) where
   abbrev here : Board
@@ -88,10 +80,7 @@ module _ {R : Type 0} (cell : R → Cell) (ink : R → ℕ) (frame : Cell → Bo
         framed = subst (λ (q : Cell). frame q ≡ true) at good.framed
 
         held : State p → is_some (look (cell r)) ≡ true → here.inks p ≡ 0 → ⊥
-        held (inl z) e = absurd (clash (sym z.1 ∙ ap (λ (c : Cell). is_some (look c)) (sym at) ∙ e))
-          where
-            clash : ◌≡◌ {A = Bool} false true → ⊥
-            clash e = let z : ◌≡◌ {A = ℕ} 0 1 = cc in omega arith
+        held (inl z) e = absurd (both_ways _ z.1 (ap (λ (c : Cell). is_some (look c)) (sym at) ∙ e))
         held (inr z) e = z.0
 
         go : (is_some (look (cell r)) ≡ true) ⊎ (ltb (length rs) n ≡ true) → Takes here p (ink r)
@@ -109,10 +98,7 @@ module _ {R : Type 0} (cell : R → Cell) (ink : R → ℕ) (frame : Cell → Bo
 
         bare : State p → here.inks p ≡ 0
         bare (inl z) = z.0
-        bare (inr z) = absurd (clash (sym parts.0 ∙ ap (λ (c : Cell). is_some (look c)) at ∙ z.1))
-          where
-            clash : ◌≡◌ {A = Bool} false true → ⊥
-            clash e = let z : ◌≡◌ {A = ℕ} 0 1 = cc in omega arith
+        bare (inr z) = absurd (both_ways _ parts.0 (ap (λ (c : Cell). is_some (look c)) at ∙ z.1))
 
   -- ---- a record is taken
 

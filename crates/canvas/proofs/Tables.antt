@@ -30,9 +30,6 @@ module _ (f : ℕ → ℕ) (at : ℕ → Cell) where
   abbrev Holds : ℕ → Cell → Type 0
   Holds k p = (i : ℕ) × (i < k) × (0 < f i) × (p ≡ at i)
 
-  some : (v : ℕ) → (v ≡ 0 → ⊥) → 0 < v
-  some v e = omega arith
-
   later : (k : ℕ) (p : Cell) → Holds k p → Holds (suc k) p
   later k p h = let l : h.0 < k = h.1 in (h.0, omega arith, h.2, h.3)
 
@@ -41,7 +38,7 @@ module _ (f : ℕ → ℕ) (at : ℕ → Cell) where
   within_more k p old m (inr e) = pick (subst (λ (qs : List Cell). Member p qs) (inked k e) m)
     where
       pick : (p ≡ at k) ⊎ Member p (cells k) → Holds (suc k) p
-      pick (inl q) = (k, omega arith, some (f k) e, q)
+      pick (inl q) = (k, omega arith, omega arith, q)
       pick (inr m) = later k p (old m)
 
   within : (k : ℕ) (p : Cell) → Member p (cells k) → Holds k p
@@ -49,19 +46,13 @@ module _ (f : ℕ → ℕ) (at : ℕ → Cell) where
   within (suc k) p m = within_more k p (within k p) m (cases_eq (f k) 0)
 
   among_more : (k i : ℕ) → i < suc k → 0 < f i → (i < k → Member (at i) (cells k)) → (f k ≡ 0) ⊎ (f k ≡ 0 → ⊥) → (i ≡ k) ⊎ (i ≡ k → ⊥) → Member (at i) (cells (suc k))
-  among_more k i l h old (inl e) (inl s) = absurd (not_bare s e)
-    where
-      not_bare : i ≡ k → f k ≡ 0 → ⊥
-      not_bare e z = let g : f i ≡ f k = ap f e in omega arith
+  among_more k i l h old (inl e) (inl s) = absurd (let g : f i ≡ f k = ap f s in omega arith)
   among_more k i l h old (inl e) (inr n) = subst (λ (qs : List Cell). Member (at i) qs) (sym (bare k e)) (old (omega arith))
   among_more k i l h old (inr e) (inl s) = subst (λ (qs : List Cell). Member (at i) qs) (sym (inked k e)) (inl (ap at s))
   among_more k i l h old (inr e) (inr n) = subst (λ (qs : List Cell). Member (at i) qs) (sym (inked k e)) (inr (old (omega arith)))
 
-  nothing_below : (i : ℕ) → i < 0 → ⊥
-  nothing_below i l = omega arith
-
   among : (k : ℕ) (i : ℕ) → i < k → 0 < f i → Member (at i) (cells k)
-  among zero i l h = absurd (nothing_below i l)
+  among zero i l h = absurd (omega arith)
   among (suc k) i l h = among_more k i l h (λ b. among k i b h) (cases_eq (f k) 0) (cases_eq i k)
 
   abbrev Apart : ℕ → Type 0

@@ -1,21 +1,18 @@
 -- Tallies: what a change of one value does to the number of those that are not 0.
-use Rattle.std.proofs.Common.{◌≡◌, ℕ, zero, suc, ◌+◌, ◌-◌, ◌<◌, ◌≤◌, Bool, true, false, cond, eqb, ◌≢◌, ◌⊎◌, sym, refl, ap, ◌∙◌, inl, inr, arith}
-use Rattle.std.proofs.lemmas.Bool.{cond-true, cond-false, cases_eq, eq-eqb, ne_eqb}
+use Rattle.std.proofs.Common.{◌≡◌, ℕ, zero, suc, ◌+◌, ◌<◌, ◌≤◌, ◌≢◌, ◌⊎◌, sym, refl, ap, ◌∙◌, inl, inr, arith}
+use Rattle.std.proofs.lemmas.Bool.{cases_eq}
+use Rattle.std.proofs.lemmas.Bool.Decides.{nat_tests}
 use Rattle.canvas.specs.Board.{held_after}
 use Rattle.canvas.specs.Tally.{mark, tally}
 
 pub mark_le : (v : ℕ) → mark v ≤ 1
-mark_le v = go (eqb v 0)
-  where
-    go : (b : Bool) → cond b 0 1 ≤ 1
-    go true = omega arith
-    go false = omega arith
+mark_le v = grind (arith, nat_tests)
 
 pub mark_zero : (v : ℕ) → v ≡ 0 → mark v ≡ 0
-mark_zero v e = cond-true (eqb v 0) 0 1 (eq-eqb v 0 e)
+mark_zero v e = grind (arith, nat_tests)
 
 pub mark_some : (v : ℕ) → (v ≡ 0 → ⊥) → mark v ≡ 1
-mark_some v e = cond-false (eqb v 0) 0 1 (ne_eqb v 0 e)
+mark_some v e = grind (arith, nat_tests)
 
 pub tally_le : (f : ℕ → ℕ) (n : ℕ) → tally f n ≤ n
 tally_le f zero = omega arith
@@ -37,23 +34,17 @@ tally-same f g (suc n) h =
 
 tally_step : (f g : ℕ → ℕ) (i n : ℕ) → ((k : ℕ) → k ≢ i → g k ≡ f k) → i < suc n → (i < n → tally g n + mark (f i) ≡ tally f n + mark (g i)) → (i ≡ n) ⊎ (i ≡ n → ⊥) → tally g (suc n) + mark (f i) ≡ tally f (suc n) + mark (g i)
 tally_step f g i n h l old (inl e) =
-    let t : tally g n ≡ tally f n = tally-same f g n (λ k b. h k (λ s. differ k b s)) in
+    let t : tally g n ≡ tally f n = tally-same f g n (λ k b. h k (λ s. omega arith)) in
     let a : mark (f i) ≡ mark (f n) = ap (λ k. mark (f k)) e in
     let b : mark (g i) ≡ mark (g n) = ap (λ k. mark (g k)) e in
     omega arith
-  where
-    differ : (k : ℕ) → k < n → k ≡ i → ⊥
-    differ k b s = omega arith
 tally_step f g i n h l old (inr e) =
     let t : tally g n + mark (f i) ≡ tally f n + mark (g i) = old (omega arith) in
     let m : mark (g n) ≡ mark (f n) = ap mark (h n (λ s. e (sym s))) in
     omega arith
 
 pub tally_change : (f g : ℕ → ℕ) (i n : ℕ) → ((k : ℕ) → k ≢ i → g k ≡ f k) → i < n → tally g n + mark (f i) ≡ tally f n + mark (g i)
-tally_change f g i zero h l = absurd (none i l)
-  where
-    none : (i : ℕ) → i < 0 → ⊥
-    none i l = omega arith
+tally_change f g i zero h l = absurd (omega arith)
 tally_change f g i (suc n) h l = tally_step f g i n h l (λ b. tally_change f g i n h b) (cases_eq i n)
 
 -- where one is 0 there is room
@@ -66,27 +57,5 @@ tally_room f i (suc n) l z = go (tally_room f i n) (cases_eq i n)
     go old (inr e) = let b : tally f n < n = old (omega arith) z in omega (arith, mark_le (f n))
 
 -- the count after a change, from the equation of the tallies
-counted_by : (old new m n : ℕ) → m + mark old ≡ n + mark new → (old ≡ 0) ⊎ (old ≡ 0 → ⊥) → (new ≡ 0) ⊎ (new ≡ 0 → ⊥) → m ≡ held_after old new n
-counted_by old new m n h (inl a) (inl b) =
-    let x : mark old ≡ 0 = mark_zero old a in
-    let y : mark new ≡ 0 = mark_zero new b in
-    let s : m ≡ n = omega arith in
-    s ∙ sym (cond-true (eqb old 0) _ _ (eq-eqb old 0 a) ∙ cond-true (eqb new 0) _ _ (eq-eqb new 0 b))
-counted_by old new m n h (inl a) (inr b) =
-    let x : mark old ≡ 0 = mark_zero old a in
-    let y : mark new ≡ 1 = mark_some new b in
-    let s : m ≡ n + 1 = omega arith in
-    s ∙ sym (cond-true (eqb old 0) _ _ (eq-eqb old 0 a) ∙ cond-false (eqb new 0) _ _ (ne_eqb new 0 b))
-counted_by old new m n h (inr a) (inl b) =
-    let x : mark old ≡ 1 = mark_some old a in
-    let y : mark new ≡ 0 = mark_zero new b in
-    let s : m ≡ n - 1 = omega arith in
-    s ∙ sym (cond-false (eqb old 0) _ _ (ne_eqb old 0 a) ∙ cond-true (eqb new 0) _ _ (eq-eqb new 0 b))
-counted_by old new m n h (inr a) (inr b) =
-    let x : mark old ≡ 1 = mark_some old a in
-    let y : mark new ≡ 1 = mark_some new b in
-    let s : m ≡ n = omega arith in
-    s ∙ sym (cond-false (eqb old 0) _ _ (ne_eqb old 0 a) ∙ cond-false (eqb new 0) _ _ (ne_eqb new 0 b))
-
 pub counts : (old new m n : ℕ) → m + mark old ≡ n + mark new → m ≡ held_after old new n
-counts old new m n h = counted_by old new m n h (cases_eq old 0) (cases_eq new 0)
+counts old new m n h = grind (arith, nat_tests)
