@@ -12,7 +12,7 @@ use Rattle.views.specs.Shows.{shown, shown_if, shown_ink}
 pub counterpart-small : (ink : ℕ) → ink ≤ top_ink → counterpart ink ≤ top_ink
 counterpart-small ink h = grind (arith, nat_tests)
 
-tinted-small : (b : Bool) (ink : ℕ) → ink ≤ top_ink → tinted b ink ≤ top_ink
+pub tinted-small : (b : Bool) (ink : ℕ) → ink ≤ top_ink → tinted b ink ≤ top_ink
 tinted-small true ink h = counterpart-small ink h
 tinted-small false ink h = h
 
