@@ -19,8 +19,8 @@ xor_comm false false = refl
 
 even_sum : (a b : Bool) → xor a b ≡ false → a ≡ b
 even_sum true true e = refl
-even_sum true false e = absurd (true≢false e)
-even_sum false true e = absurd (true≢false e)
+even_sum true false e = cc
+even_sum false true e = cc
 even_sum false false e = refl
 
 module _ (ops : Operation → Type 0) (group : Group ops) where

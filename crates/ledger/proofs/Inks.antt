@@ -1,5 +1,5 @@
 -- Inks and their counterparts.
-use Rattle.std.proofs.Common.{◌≡◌, ℕ, ◌<◌, ◌≤◌, Bool, true, false, sym, refl, ◌∙◌, arith}
+use Rattle.std.proofs.Common.{◌≡◌, ℕ, ◌<◌, Bool, true, false, sym, refl, ◌∙◌, arith}
 use Rattle.std.proofs.lemmas.Bool.Decides.{nat_tests}
 use Rattle.plane.specs.Operation.{xor}
 use Rattle.canvas.specs.Inks.{counterpart, top_ink}
@@ -7,9 +7,6 @@ use Rattle.views.specs.Tints.{tinted}
 
 pub counterpart-counterpart : (n : ℕ) → counterpart (counterpart n) ≡ n
 counterpart-counterpart n = grind (arith, nat_tests)
-
-counterpart-small : (n : ℕ) → n ≤ 15 → counterpart n ≤ 15
-counterpart-small n h = grind (arith, nat_tests)
 
 counterpart_large : (n : ℕ) → 15 < n → 15 < counterpart n
 counterpart_large n h = grind (arith, nat_tests)
@@ -39,10 +36,6 @@ tinted_own false n e = refl
 pub own_tinted : (a : Bool) (n : ℕ) → counterpart (tinted a n) ≡ tinted a n → counterpart n ≡ n
 own_tinted true n e = sym e ∙ counterpart-counterpart n
 own_tinted false n e = e
-
-pub tinted-small : (b : Bool) (n : ℕ) → n ≤ top_ink → tinted b n ≤ top_ink
-tinted-small true n h = counterpart-small n h
-tinted-small false n h = h
 
 pub tinted_large : (b : Bool) (n : ℕ) → top_ink < n → top_ink < tinted b n
 tinted_large true n h = counterpart_large n h

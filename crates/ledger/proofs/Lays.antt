@@ -1,5 +1,5 @@
 -- Laying a cell keeps the board and the ledger together: it stops as the ledger says, or the board keeps the ledger with the cell laid.
-use Rattle.std.proofs.Common.{◌≡◌, ℕ, suc, ◌+◌, ◌<◌, ◌≤◌, Bool, true, false, cond, not, eqb, ◌⊎◌, List, [], ◌∷◌, length, Some, None, Option, sym, refl, ap, ◌∙◌, inl, inr, arith}
+use Rattle.std.proofs.Common.{◌≡◌, ℕ, ◌+◌, ◌<◌, ◌≤◌, Bool, true, false, cond, not, eqb, ◌⊎◌, List, [], ◌∷◌, length, Some, None, Option, sym, refl, ap, ◌∙◌, inl, inr, arith}
 use Rattle.std.proofs.lemmas.Bool.{cases_lt, cases_eq, ne_eqb, eqb-false, and_from, and_parts, not-true, not_from_false, both_ways}
 use Rattle.plane.specs.declared.cell.Cell.{Cell}
 use Rattle.plane.specs.Cells.{AllWithin, Within, same}
@@ -17,7 +17,8 @@ use Rattle.views.specs.Tints.{neutral}
 use Rattle.sheet.specs.Laying.{home_ink, clashes, by_canvas, lay_refusal, lay_board, lay_all, lay_next, Laid}
 use Rattle.ledger.specs.Ledgers.{Ledger}
 use Rattle.ledger.specs.Feeding.{Setting, setting, Taken, Clashes, Stops, Adds}
-use Rattle.ledger.proofs.Inks.{tinted-small, tinted_colours, colours_tinted}
+use Rattle.views.proofs.Shown.{tinted-small}
+use Rattle.ledger.proofs.Inks.{tinted_colours, colours_tinted}
 use Rattle.ledger.proofs.Classes.{flips, Classes}
 use Rattle.ledger.proofs.Puts.{Put, outside, full, done, put_cases}
 use Rattle.ledger.proofs.Keeping.{Keeps, taken_iff, is_full, not_full}
@@ -106,11 +107,8 @@ module _ (m : Meaning) (frame : Cell → Bool) (cl : Classes m) (seats : ℕ) (m
   stringing (p ∷ ps) L b all keeps =
       go (λ M c. stringing ps M c all.1) (lay_refusal m b p mark) (lay_board m b p mark) (laying L b keeps p all.0)
     where
-      longer : (m l n : ℕ) → m ≡ suc l + n → m ≡ l + suc n
-      longer m l n e = omega arith
-
       go : ((M : Ledger) (c : Board) → Keeps m frame seats M c → Strung ps M (lay_all m c mark ps)) → (o : Option LayRefused) (c : Board) → Came L b keeps p all.0 o c → Strung (p ∷ ps) L (lay_next o b (lay_all m c mark ps))
       go rest (Some why) c came = record { ledger = L; adds = inl (why, came, refl, refl); count = omega arith; keeps = keeps }
       go rest None c came =
           let s = rest (record { cell = p; mark = mark } ∷ L) c came.1 in
-          record { ledger = s.ledger; adds = inr (came.0, s.adds); count = longer _ _ _ s.count; keeps = s.keeps }
+          record { ledger = s.ledger; adds = inr (came.0, s.adds); count = omega (arith, s.count); keeps = s.keeps }

@@ -1,5 +1,5 @@
 -- A show and a window on a board that keeps a ledger answer and write what the ledger tells.
-use Rattle.std.proofs.Common.{◌≡◌, ℕ, ◌<◌, ◌≤◌, Bool, true, false, cond, not, ◌||◌, eqb, ltb, List, [], ◌∷◌, ◌++◌, length, ℤ, pos, nat_abs, ◌≤ℤ◌, Some, None, Ok, Option, sym, refl, ap, inl, inr, arith}
+use Rattle.std.proofs.Common.{◌≡◌, ℕ, Bool, true, false, cond, not, ◌||◌, eqb, ltb, List, [], ◌∷◌, ◌++◌, length, ℤ, pos, nat_abs, ◌≤ℤ◌, Some, None, Ok, Option, sym, refl, ap, inl, inr, arith}
 use lib.Signed.{lt_z}
 use borrow.Author.Differences.{ints}
 use Rattle.std.proofs.lemmas.Bool.{both_ways, or_parts, or_from, eqb-true, eqb-false, ltb-true, ltb-false}
@@ -74,14 +74,11 @@ module _ (m : Meaning) (frame : Cell → Bool) (corner : Cell) (width height : �
       go false true true true ea eb ec ed = (right ea, spanned eb, eqb-true palette 48 ec, ltb-true output size ed)
       go false true true false ea eb ec ed = (clear, spanned eb)
         where
-          apart : (x y : ℕ) → x < y → y ≤ x → ⊥
-          apart x y h k = omega arith
-
           clear : (why : WindowRefused) → Denies here corner width height palette output why → ⊥
           clear Side h = h (right ea)
           clear OffSpan h = h.1 (spanned eb)
           clear Palette h = h.2 (eqb-true palette 48 ec)
-          clear Output h = apart output size h.3 (ltb-false output size ed)
+          clear Output h = omega (arith, ltb-false output size ed)
 
 -- ---- what is shown
 module _ (m : Meaning) (frame : Cell → Bool) (cl : Classes m) (L : Ledger) (b : Board) (follows : Follows m L b.inks) where

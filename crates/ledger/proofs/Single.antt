@@ -1,16 +1,15 @@
 -- One refusal at most, and one page: what a stroke does to a page depends on its cells and its mark alone.
-use Rattle.std.proofs.Common.{◌≡◌, ℕ, ◌<◌, ◌≤◌, List, [], ◌∷◌, length, Option, Result, sym, refl, ap, ◌∙◌, inl, inr, arith}
+use Rattle.std.proofs.Common.{◌≡◌, ℕ, List, [], ◌∷◌, length, Option, Result, sym, refl, ap, ◌∙◌, inl, inr, arith}
 use Rattle.std.proofs.lemmas.Bool.{both_ways}
 use Rattle.plane.specs.declared.cell.Cell.{Cell}
 use Rattle.canvas.specs.declared.refusal.PutRefused.TheVariants.{Ink as PutInk, Frame, Seats}
-use Rattle.canvas.specs.Inks.{top_ink}
 use Rattle.sheet.specs.declared.mark.Mark.{Mark}
 use Rattle.sheet.specs.declared.refusal.LayRefused.{LayRefused}
 use Rattle.sheet.specs.declared.refusal.LayRefused.TheVariants.{Clash, Canvas}
 use Rattle.sheet.specs.declared.refusal.StrokeRefused.{StrokeRefused}
 use Rattle.sheet.specs.declared.refusal.StrokeRefused.TheVariants.{TooManyStrokes, Ink, OffSpan, TooLong, Stopped}
 use Rattle.sheet.specs.declared.refusal.StrokeStopped.{StrokeStopped}
-use Rattle.sheet.specs.Strokes.{top_strokes, strokes_after}
+use Rattle.sheet.specs.Strokes.{strokes_after}
 use Rattle.ledger.specs.Ledgers.{Ledger}
 use Rattle.ledger.specs.Feeding.{Setting, Stops, Adds}
 use Rattle.ledger.specs.Striking.{Page, Bars, Lays, Strikes}
@@ -38,28 +37,25 @@ adds_one s seats i (p ∷ ps) L M N o u (inl h) (inr k) = absurd (k.0 h.0 h.1)
 adds_one s seats i (p ∷ ps) L M N o u (inr h) (inl k) = absurd (h.0 k.0 k.1)
 adds_one s seats i (p ∷ ps) L M N o u (inr h) (inr k) = adds_one s seats i ps (record { cell = p; mark = i } ∷ L) M N o u h.1 k.1
 
-apart : (x y : ℕ) → x < y → y ≤ x → ⊥
-apart x y h k = omega arith
-
 -- at most one refusal bars a stroke
 pub bars_one : (s : Setting) (n : ℕ) (mark : Mark) (from to : Cell) (cells : List Cell) (r t : StrokeRefused) → Bars s n mark from to cells r → Bars s n mark from to cells t → r ≡ t
 bars_one s n mark from to cells TooManyStrokes TooManyStrokes h k = refl
-bars_one s n mark from to cells TooManyStrokes Ink h k = absurd (apart n top_strokes k.0 h)
-bars_one s n mark from to cells TooManyStrokes OffSpan h k = absurd (apart n top_strokes k.0 h)
-bars_one s n mark from to cells TooManyStrokes TooLong h k = absurd (apart n top_strokes k.0 h)
+bars_one s n mark from to cells TooManyStrokes Ink h k = absurd (omega arith)
+bars_one s n mark from to cells TooManyStrokes OffSpan h k = absurd (omega arith)
+bars_one s n mark from to cells TooManyStrokes TooLong h k = absurd (omega arith)
 bars_one s n mark from to cells TooManyStrokes (Stopped why) h k = absurd k
-bars_one s n mark from to cells Ink TooManyStrokes h k = absurd (apart n top_strokes h.0 k)
+bars_one s n mark from to cells Ink TooManyStrokes h k = absurd (omega arith)
 bars_one s n mark from to cells Ink Ink h k = refl
-bars_one s n mark from to cells Ink OffSpan h k = absurd (apart top_ink mark.ink h.1 k.1)
-bars_one s n mark from to cells Ink TooLong h k = absurd (apart top_ink mark.ink h.1 k.1)
+bars_one s n mark from to cells Ink OffSpan h k = absurd (omega arith)
+bars_one s n mark from to cells Ink TooLong h k = absurd (omega arith)
 bars_one s n mark from to cells Ink (Stopped why) h k = absurd k
-bars_one s n mark from to cells OffSpan TooManyStrokes h k = absurd (apart n top_strokes h.0 k)
-bars_one s n mark from to cells OffSpan Ink h k = absurd (apart top_ink mark.ink k.1 h.1)
+bars_one s n mark from to cells OffSpan TooManyStrokes h k = absurd (omega arith)
+bars_one s n mark from to cells OffSpan Ink h k = absurd (omega arith)
 bars_one s n mark from to cells OffSpan OffSpan h k = refl
 bars_one s n mark from to cells OffSpan TooLong h k = absurd (h.2 k.2)
 bars_one s n mark from to cells OffSpan (Stopped why) h k = absurd k
-bars_one s n mark from to cells TooLong TooManyStrokes h k = absurd (apart n top_strokes h.0 k)
-bars_one s n mark from to cells TooLong Ink h k = absurd (apart top_ink mark.ink k.1 h.1)
+bars_one s n mark from to cells TooLong TooManyStrokes h k = absurd (omega arith)
+bars_one s n mark from to cells TooLong Ink h k = absurd (omega arith)
 bars_one s n mark from to cells TooLong OffSpan h k = absurd (k.2 h.2)
 bars_one s n mark from to cells TooLong TooLong h k = refl
 bars_one s n mark from to cells TooLong (Stopped why) h k = absurd k

@@ -57,14 +57,11 @@ module _ (m : Meaning) (frame : Cell → Bool) (strokes : ℕ) (mark : Mark) (fr
           short : length cells ≤ top_length
           short = ltb-false top_length (length cells) ed
 
-          apart : (x y : ℕ) → x < y → y ≤ x → ⊥
-          apart x y h k = omega arith
-
           clear : (why : StrokeRefused) → Bars here strokes mark from to cells why → ⊥
-          clear TooManyStrokes h = apart strokes top_strokes few h
-          clear Ink h = apart top_ink mark.ink h.1 small
+          clear TooManyStrokes h = omega (arith, few)
+          clear Ink h = omega (arith, small)
           clear OffSpan h = h.2 (ends_in ec)
-          clear TooLong h = apart top_length (length cells) h.3 short
+          clear TooLong h = omega (arith, short)
           clear (Stopped why) h = h
 
 -- the answer once cells are laid

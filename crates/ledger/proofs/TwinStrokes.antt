@@ -12,7 +12,8 @@ use Rattle.sheet.specs.declared.refusal.StrokeStopped.{StrokeStopped}
 use Rattle.sheet.specs.Strokes.{stroke_refusal, strokes_after}
 use Rattle.ledger.specs.Feeding.{Setting, setting, Adds}
 use Rattle.ledger.specs.Striking.{Page, Ends, Bars, Lays, answered, Strikes}
-use Rattle.ledger.proofs.Inks.{tinted-small, tinted_large}
+use Rattle.views.proofs.Shown.{tinted-small}
+use Rattle.ledger.proofs.Inks.{tinted_large}
 use Rattle.ledger.proofs.Classes.{Classes}
 use Rattle.ledger.proofs.Single.{bars_one}
 use Rattle.ledger.proofs.Strokes.{Barred, barring}

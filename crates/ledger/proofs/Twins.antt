@@ -52,9 +52,6 @@ module _ (m : Meaning) where
     turned (e ∷ L) [] h = h
     turned (e ∷ L) (f ∷ M) h = ((h.0.0, flipped e.cell f.cell e.mark f.mark h.0.0 h.0.1), turned L M h.1)
 
-    pub pair_carried : (p q : Cell) (i j : Mark) (a : Bool) → Pair p q i j a → Carried m.operations p q
-    pair_carried p q i j a w = carried_of w.goes
-
     pub pair_home : (p q : Cell) (i j : Mark) (a : Bool) → Pair p q i j a → m.home p ≡ m.home q
     pair_home p q i j a w = cl.one_home p q w.from w.to (carried_of w.goes)
 
