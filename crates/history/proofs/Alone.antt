@@ -1,5 +1,5 @@
 -- One list of calls leads to one page, whatever the calls are said to have answered.
-use Rattle.std.proofs.Common.{◌≡◌, ℕ, List, [], ◌∷◌, length, Option, sym, ◌∙◌, subst, arith}
+use Rattle.std.proofs.Common.{◌≡◌, ℕ, List, [], ◌∷◌, length, Option, sym, ◌∙◌, subst}
 use Rattle.lines.specs.Lines.{line_cells}
 use Rattle.sheet.specs.Laying.{marked}
 use Rattle.ledger.specs.Feeding.{Setting}
@@ -19,8 +19,8 @@ module _ (s : Setting) (lent lent' : Lent) where
 
   pub draws_all_one : (es fs : List (Answered Drawing)) (at at' end end' : ℕ) (A B C : Page) → drawing_calls es ≡ drawing_calls fs → DrawsAll s lent at A es end B → DrawsAll s lent' at' A fs end' C → B ≡ C
   draws_all_one [] [] at at' end end' A B C c h k = h.1 ∙ sym k.1
-  draws_all_one [] (f ∷ fs) at at' end end' A B C c h k = absurd (let z : ◌≡◌ {A = ℕ} 0 1 = cc in omega arith)
-  draws_all_one (e ∷ es) [] at at' end end' A B C c h k = absurd (let z : ◌≡◌ {A = ℕ} 0 1 = cc in omega arith)
+  draws_all_one [] (f ∷ fs) at at' end end' A B C c h k = cc
+  draws_all_one (e ∷ es) [] at at' end end' A B C c h k = cc
   draws_all_one (e ∷ es) (f ∷ fs) at at' end end' A B C c h k =
       let first : e.call ≡ f.call = cc in
       let rest : drawing_calls es ≡ drawing_calls fs = cc in

@@ -1,8 +1,8 @@
 -- Parts of an output that follow one another.
-use Rattle.std.proofs.Common.{◌≡◌, ℕ, ◌+◌, ◌-◌, ◌<◌, ◌≤◌, min, ◌⊎◌, List, [], ◌∷◌, ◌++◌, length, take, drop, sym, refl, ap, ◌∙◌, inl, inr, arith, length-append, length-drop, take-append-drop, length-take}
-use native.Mathlib.Nat.{min-eq_left, min-eq_right, min-le_left}
+use Rattle.std.proofs.Common.{◌≡◌, ℕ, ◌+◌, ◌-◌, ◌<◌, ◌≤◌, min, ◌⊎◌, List, [], ◌++◌, length, take, drop, sym, ap, ◌∙◌, inl, inr, arith, length-append, length-drop, take-append-drop, length-take}
+use native.Mathlib.Nat.{min-eq_left, min-eq_right}
 use Rattle.std.proofs.lemmas.Bool.{cases_lt}
-use Rattle.std.proofs.lemmas.List.{take_all, take-take, take_at, drop-drop, drop_at, drop_all, drop-take}
+use Rattle.std.proofs.lemmas.List.{append-nil, take_all, take-take, take_at, drop-drop, drop_at, drop_all, drop-take}
 use Rattle.views.specs.Windows.{placed}
 use Rattle.history.specs.Histories.{part, past}
 
@@ -13,9 +13,6 @@ past_cases long at n = go (cases_lt long (at + n))
     go : (long < at + n) ⊎ (at + n ≤ long) → ((at + n ≤ long) × (past long at n ≡ at + n)) ⊎ ((long < at + n) × (past long at n ≡ long))
     go (inl h) = inr (h, min-eq_left (omega arith))
     go (inr h) = inl (h, min-eq_right h)
-
-pub past_low : (long at n : ℕ) → past long at n ≤ long
-past_low long at n = min-le_left long (at + n)
 
 pub past_on : (long at n : ℕ) → at ≤ long → at ≤ past long at n
 past_on long at n h = omega arith
@@ -80,11 +77,7 @@ module _ (at n : ℕ) (new out : List ℕ) (h : at ≤ length out) (e : length n
   here_by (inl k) = take_at new (drop (at + length new) out) n k
   here_by (inr k) =
       let none : drop (at + length new) out ≡ [] = drop_all (at + length new) out (omega (arith, k.1)) in
-      take_all n (new ++ drop (at + length new) out) (omega (arith, k.0, length-append new (drop (at + length new) out), ap length none)) ∙ ap (λ ys. new ++ ys) none ∙ bare new
-    where
-      bare : (xs : List ℕ) → xs ++ [] ≡ xs
-      bare [] = refl
-      bare (x ∷ xs) = ap (λ ys. x ∷ ys) (bare xs)
+      take_all n (new ++ drop (at + length new) out) (omega (arith, k.0, length-append new (drop (at + length new) out), ap length none)) ∙ ap (λ ys. new ++ ys) none ∙ append-nil new
 
   late_by : (length new ≡ n) ⊎ ((length new ≤ n) × (at + length new ≡ length out)) → drop n (new ++ drop (at + length new) out) ≡ drop (at + n) out
   late_by (inl k) = drop_at new (drop (at + length new) out) n k ∙ ap (λ i. drop (at + i) out) k

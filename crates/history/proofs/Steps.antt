@@ -1,5 +1,5 @@
 -- One call: it answers and writes what the ledger tells, and leaves a board that keeps the page after it.
-use Rattle.std.proofs.Common.{◌≡◌, ℕ, ◌+◌, ◌-◌, ◌≤◌, Bool, true, false, cond, not, ◌||◌, eqb, ltb, List, [], ◌∷◌, length, take, drop, ℤ, nat_abs, Some, None, sym, refl, ap, ◌∙◌, subst, subst₂, arith, length-append, length-drop}
+use Rattle.std.proofs.Common.{◌≡◌, ℕ, ◌≤◌, Bool, true, false, cond, not, ◌||◌, eqb, ltb, List, [], ◌∷◌, length, take, drop, ℤ, nat_abs, Some, None, sym, refl, ap, ◌∙◌, subst, subst₂, arith, length-append, length-drop}
 use Rattle.std.proofs.lemmas.Bool.{ltb-false}
 use Rattle.std.proofs.lemmas.List.{drop-drop}
 use Rattle.plane.specs.declared.cell.Cell.{Cell}
@@ -44,10 +44,7 @@ window_long m b corner width height palette output =
         let bytes : List ℕ = picture m b palette corner (nat_abs width) (nat_abs height) in
         let e : length bytes ≡ picture_size (nat_abs width) (nat_abs height) = picture-length m b palette corner (nat_abs width) (nat_abs height) in
         let k : length bytes ≤ length output = subst (λ n. n ≤ length output) (sym e) h in
-        length-append bytes (drop (length bytes) output) ∙ joins (length bytes) (length output) (length (drop (length bytes) output)) k (length-drop (length bytes) output)
-      where
-        joins : (x y z : ℕ) → x ≤ y → z ≡ y - x → x + z ≡ y
-        joins x y z h e = omega arith
+        omega (arith, length-append bytes (drop (length bytes) output), length-drop (length bytes) output)
 
     go : (p q r t : Bool) → ltb (length output) (picture_size (nat_abs width) (nat_abs height)) ≡ t → length (unless_refused (cond p (Some Side) (cond (not q) (Some OffSpan) (cond (not r) (Some Palette) (cond t (Some Output) None)))) output (written_over (picture m b palette corner (nat_abs width) (nat_abs height)) output)) ≡ length output
     go true q r t e = refl

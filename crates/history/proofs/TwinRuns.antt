@@ -1,5 +1,5 @@
 -- Twin histories get the same answers and the same bytes.
-use Rattle.std.proofs.Common.{◌≡◌, ℕ, Bool, List, [], ◌∷◌, ◌++◌, map, length, take, drop, Some, None, Option, Result, sym, refl, ap, ◌∙◌, subst, ap₂, subst₂, inl, inr, arith}
+use Rattle.std.proofs.Common.{◌≡◌, ℕ, Bool, List, [], ◌∷◌, ◌++◌, map, length, take, drop, Some, None, Option, Result, sym, refl, ap, ◌∙◌, subst, ap₂, subst₂, inl, inr}
 use Rattle.plane.specs.declared.cell.Cell.{Cell}
 use Rattle.plane.specs.declared.fold.FoldRefused.{FoldRefused}
 use Rattle.plane.specs.Operation.{carry}
@@ -127,8 +127,8 @@ module _ (m : Meaning) (frame : Cell → Bool) (cl : Classes m) (lent lent' : Le
 
     views_all_twin : (A A' : Page) → Pages m A A' → (vs ws : List (Answered Viewing)) (at end end' : ℕ) → map (λ (v : Answered Viewing). v.call) vs ≡ map (λ (v : Answered Viewing). v.call) ws → ViewsAll here lent at A vs end → ViewsAll here lent' at A' ws end' → Sights at end end' vs ws
     views_all_twin A A' e [] [] at end end' c h k = record { answers = refl; ends = h ∙ sym k; rest = λ _ r. subst (λ n. drop n lent.after ≡ drop n lent'.after) h r }
-    views_all_twin A A' e [] (w ∷ ws) at end end' c h k = absurd (let z : ◌≡◌ {A = ℕ} 0 1 = cc in omega arith)
-    views_all_twin A A' e (v ∷ vs) [] at end end' c h k = absurd (let z : ◌≡◌ {A = ℕ} 0 1 = cc in omega arith)
+    views_all_twin A A' e [] (w ∷ ws) at end end' c h k = cc
+    views_all_twin A A' e (v ∷ vs) [] at end end' c h k = cc
     views_all_twin A A' e (v ∷ vs) (w ∷ ws) at end end' c h k =
         let first : v.call ≡ w.call = cc in
         let others : map (λ (v : Answered Viewing). v.call) vs ≡ map (λ (v : Answered Viewing). v.call) ws = cc in
@@ -149,8 +149,8 @@ module _ (m : Meaning) (frame : Cell → Bool) (cl : Classes m) (lent lent' : Le
 
     closing_twin : (A A' : Page) → Pages m A A' → (vs ws : Option (List (Answered Viewing))) (at end end' : ℕ) → viewing_calls vs ≡ viewing_calls ws → Closing here lent at A vs end → Closing here lent' at A' ws end' → Ending at end end' vs ws
     closing_twin A A' e None None at end end' c h k = record { answers = refl; ends = h ∙ sym k; rest = λ _ r. subst (λ n. drop n lent.after ≡ drop n lent'.after) h r }
-    closing_twin A A' e None (Some ws) at end end' c h k = absurd (let z : ◌≡◌ {A = ℕ} 0 1 = cc in omega arith)
-    closing_twin A A' e (Some vs) None at end end' c h k = absurd (let z : ◌≡◌ {A = ℕ} 0 1 = cc in omega arith)
+    closing_twin A A' e None (Some ws) at end end' c h k = cc
+    closing_twin A A' e (Some vs) None at end end' c h k = cc
     closing_twin A A' e (Some vs) (Some ws) at end end' c h k =
         let calls : map (λ (v : Answered Viewing). v.call) vs ≡ map (λ (v : Answered Viewing). v.call) ws = cc in
         let all = views_all_twin A A' e vs ws at end end' calls h k in
