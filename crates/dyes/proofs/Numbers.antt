@@ -1,8 +1,9 @@
 -- The inks of a list of dye records: what their tests say, and that they hold once a record with the next ink is stored.
-use Rattle.std.proofs.Common.{◌≡◌, ℕ, ◌+◌, ◌<◌, ◌≤◌, Bool, true, false, cond, not, eqb, leb, ◌⊎◌, List, [], ◌∷◌, length, is_some, Some, None, Option, sym, refl, ap, ◌∙◌, subst, inl, inr, arith}
+use Rattle.std.proofs.Common.{◌≡◌, ℕ, ◌+◌, ◌<◌, ◌≤◌, Bool, true, false, cond, not, eqb, ◌⊎◌, List, [], ◌∷◌, length, is_some, Some, None, Option, sym, refl, ap, ◌∙◌, subst, inl, inr, arith}
 use Rattle.std.specs.List.{list_all, AllByRecursion as All}
 use Rattle.std.proofs.ByRecursion.{All-weaker}
-use Rattle.std.proofs.lemmas.Bool.{and_parts, and_from, leb-true, le-leb, eqb-true, eq-eqb, ne_eqb, cases_lt, cond-true, cond-false, not-true, not_from_false, both_ways, false≢true, true≢false}
+use Rattle.std.proofs.lemmas.Bool.{and_parts, and_from, eqb-true, eq-eqb, ne_eqb, cases_lt, cond-true, cond-false, not-true, not_from_false, both_ways}
+use Rattle.std.proofs.lemmas.Bool.Decides.{nat_tests}
 use Rattle.shelf.specs.Keys.{found, stored}
 use Rattle.shelf.proofs.Sizes.{all_stored, length_stored_unknown}
 use Rattle.dyes.specs.declared.record.DyeRecord.{DyeRecord}
@@ -22,28 +23,20 @@ abbrev pub Among : ℕ → DyeRecord → Type 0
 Among n r = (0 < r.ink) × (r.ink ≤ n)
 
 among_is : (n : ℕ) (r : DyeRecord) → among n r ≡ true → Among n r
-among_is n r h =
-    let p = and_parts (leb 1 r.ink) (leb r.ink n) h in
-    (leb-true 1 r.ink p.0, leb-true r.ink n p.1)
+among_is n r h = (grind (arith, nat_tests), grind (arith, nat_tests))
 
 is_among : (n : ℕ) (r : DyeRecord) → Among n r → among n r ≡ true
-is_among n r a = and_from _ _ (le-leb 1 r.ink a.0) (le-leb r.ink n a.1)
+is_among n r a = grind (arith, nat_tests)
 
 pub all_among : (rs : List DyeRecord) → Numbered rs → All (Among (length rs)) rs
 all_among rs h = All-weaker (λ r. among (length rs) r ≡ true) (Among (length rs)) (among_is (length rs)) rs (all_of (among (length rs)) rs (and_parts _ _ h).0)
 
 pub by_ink_is : (P : DyeRecord → Type 0) (k : ℕ) (rs : List DyeRecord) (r : DyeRecord) → All P rs → by_ink k rs ≡ Some r → (r.ink ≡ k) × P r
-by_ink_is P k [] r a h = absurd (never h)
-  where
-    never : ◌≡◌ {A = Option DyeRecord} None (Some r) → ⊥
-    never e = let z : ◌≡◌ {A = ℕ} 0 1 = cc in omega arith
+by_ink_is P k [] r a h = cc
 by_ink_is P k (x ∷ xs) r a h = go (eqb x.ink k) refl (by_ink_is P k xs r a.1) h
   where
-    same : ◌≡◌ {A = Option DyeRecord} (Some x) (Some r) → x ≡ r
-    same e = cc
-
     go : (t : Bool) → eqb x.ink k ≡ t → (by_ink k xs ≡ Some r → (r.ink ≡ k) × P r) → cond t (Some x) (by_ink k xs) ≡ Some r → (r.ink ≡ k) × P r
-    go true e more h = subst (λ (v : DyeRecord). (v.ink ≡ k) × P v) (same h) (eqb-true x.ink k e, a.0)
+    go true e more h = let same : x ≡ r = cc in subst (λ (v : DyeRecord). (v.ink ≡ k) × P v) same (eqb-true x.ink k e, a.0)
     go false e more h = more h
 
 -- inks that no two share: each record is the first with its ink
@@ -54,7 +47,7 @@ all_by_ink (x ∷ xs) h =
     (cond-true (eqb x.ink x.ink) _ _ (eq-eqb x.ink x.ink refl), past xs (all_of (λ r. not (eqb r.ink x.ink)) xs p.0) (all_by_ink xs p.1))
   where
     other : (y : DyeRecord) → not (eqb y.ink x.ink) ≡ true → eqb x.ink y.ink ≡ false
-    other y h = ne_eqb x.ink y.ink (λ e. both_ways _ (not-true _ h) (eq-eqb y.ink x.ink (sym e)))
+    other y h = grind (arith, nat_tests)
 
     past : (ys : List DyeRecord) → All (λ y. not (eqb y.ink x.ink) ≡ true) ys → All (λ y. by_ink y.ink xs ≡ Some y) ys → All (λ y. by_ink y.ink (x ∷ xs) ≡ Some y) ys
     past [] a b = tt
@@ -95,7 +88,7 @@ by_ink_new r (x ∷ xs) = go (dye_keys.before x.name r.name) (dye_keys.before r.
     go false false more = self xs
 
 by_ink_old : (k : ℕ) (r : DyeRecord) (rs : List DyeRecord) → is_some (found dye_keys r.name rs) ≡ false → is_some (by_ink k rs) ≡ true → is_some (by_ink k (stored dye_keys r rs)) ≡ true
-by_ink_old k r [] u h = absurd (false≢true h)
+by_ink_old k r [] u h = cc
 by_ink_old k r (x ∷ xs) u h = go (dye_keys.before x.name r.name) (dye_keys.before r.name x.name) (by_ink_old k r xs) u h
   where
     on : (y : DyeRecord) (t : Bool) (o : Option DyeRecord) → is_some o ≡ true → is_some (cond t (Some y) o) ≡ true
@@ -109,7 +102,7 @@ by_ink_old k r (x ∷ xs) u h = go (dye_keys.before x.name r.name) (dye_keys.bef
     go : (a b : Bool) → (is_some (found dye_keys r.name xs) ≡ false → is_some (by_ink k xs) ≡ true → is_some (by_ink k (stored dye_keys r xs)) ≡ true) → is_some (cond a (found dye_keys r.name xs) (cond b None (Some x))) ≡ false → is_some (by_ink k (x ∷ xs)) ≡ true → is_some (by_ink k (cond a (x ∷ stored dye_keys r xs) (cond b (r ∷ x ∷ xs) (r ∷ xs)))) ≡ true
     go true b more u h = step (eqb x.ink k) (by_ink k xs) (by_ink k (stored dye_keys r xs)) (more u) h
     go false true more u h = on r (eqb r.ink k) (by_ink k (x ∷ xs)) h
-    go false false more u h = absurd (true≢false u)
+    go false false more u h = cc
 
 module _ (r : DyeRecord) (rs : List DyeRecord) (next : r.ink ≡ length rs + 1) (new : is_some (found dye_keys r.name rs) ≡ false) where
   grown : length (stored dye_keys r rs) ≡ length rs + 1

@@ -12,14 +12,8 @@ is_well_formed text a b = ap (λ t. t && (leb (length text) 8 && list_all letter
 -- ---- filling up keeps the order: 0 is below every letter, and an end below every byte
 
 zeros : (n : ℕ) → 0 < n → replicate {A = ℕ} n 0 ≡ 0 ∷ replicate {A = ℕ} (n - 1) 0
-zeros zero l = absurd (none l)
-  where
-    none : 0 < 0 → ⊥
-    none l = omega arith
-zeros (suc n) l = ap (λ (k : ℕ). 0 ∷ replicate {A = ℕ} k 0) (pred n)
-  where
-    pred : (n : ℕ) → n ≡ suc n - 1
-    pred n = omega arith
+zeros zero l = absurd (omega arith)
+zeros (suc n) l = let e : n ≡ suc n - 1 = omega arith in ap (λ (k : ℕ). 0 ∷ replicate {A = ℕ} k 0) e
 
 pub filled_order : (n : ℕ) (t u : List ℕ) → All (λ b. 0 < b) t → All (λ b. 0 < b) u → length t ≤ n → length u ≤ n → lexical (t ++ replicate (n - length t) 0) (u ++ replicate (n - length u) 0) ≡ lexical t u
 filled_order n [] [] a b l m = lexical_irreflexive (replicate (n - 0) 0)
