@@ -1,7 +1,6 @@
 -- The record of a key is found, stored and taken at the rank of the key. Each step looks at how the first key compares: a is whether it is before the given one, b whether it is after.
 use Rattle.std.proofs.Common.{◌≡◌, suc, ◌<◌, Bool, true, false, cond, List, [], ◌∷◌, length, get_or, set, is_some, Some, None, refl, ap, suc-le-suc, arith}
 use Rattle.std.specs.List.{insert, remove}
-use Rattle.std.proofs.lemmas.Bool.{true≢false, false≢true}
 use Rattle.shelf.specs.Keys.{Keys, rank, found, stored, taken}
 
 module _ {R K : Type 0} (keys : Keys R K) where
@@ -13,7 +12,7 @@ module _ {R K : Type 0} (keys : Keys R K) where
 
   -- a key that is found has its rank below the number of records
   pub rank_known : (k : K) (xs : List R) → Known k xs → rank keys k xs < length xs
-  rank_known k [] h = absurd (false≢true h)
+  rank_known k [] h = cc
   rank_known k (x ∷ xs) h = go (keys.before (keys.key x) k) (keys.before k (keys.key x)) (rank_known k xs) h
     where
       go : (a b : Bool) → (Known k xs → rank keys k xs < length xs) → is_some (cond a (found keys k xs) (cond b None (Some x))) ≡ true → cond a (suc (rank keys k xs)) 0 < suc (length xs)
@@ -21,21 +20,21 @@ module _ {R K : Type 0} (keys : Keys R K) where
       go false b more h = omega arith
 
   pub found_known : (k : K) (xs : List R) (d : R) → Known k xs → found keys k xs ≡ Some (get_or xs (rank keys k xs) d)
-  found_known k [] d h = absurd (false≢true h)
+  found_known k [] d h = cc
   found_known k (x ∷ xs) d h = go (keys.before (keys.key x) k) (keys.before k (keys.key x)) (found_known k xs d) h
     where
       go : (a b : Bool) → (Known k xs → found keys k xs ≡ Some (get_or xs (rank keys k xs) d)) → is_some (cond a (found keys k xs) (cond b None (Some x))) ≡ true → cond a (found keys k xs) (cond b None (Some x)) ≡ Some (get_or (x ∷ xs) (cond a (suc (rank keys k xs)) 0) d)
       go true b more h = more h
-      go false true more h = absurd (false≢true h)
+      go false true more h = cc
       go false false more h = refl
 
   pub stored_known : (r : R) (xs : List R) → Known (keys.key r) xs → stored keys r xs ≡ set xs (rank keys (keys.key r) xs) r
-  stored_known r [] h = absurd (false≢true h)
+  stored_known r [] h = cc
   stored_known r (x ∷ xs) h = go (keys.before (keys.key x) (keys.key r)) (keys.before (keys.key r) (keys.key x)) (stored_known r xs) h
     where
       go : (a b : Bool) → (Known (keys.key r) xs → stored keys r xs ≡ set xs (rank keys (keys.key r) xs) r) → is_some (cond a (found keys (keys.key r) xs) (cond b None (Some x))) ≡ true → cond a (x ∷ stored keys r xs) (cond b (r ∷ x ∷ xs) (r ∷ xs)) ≡ set (x ∷ xs) (cond a (suc (rank keys (keys.key r) xs)) 0) r
       go true b more h = ap (λ (l : List R). x ∷ l) (more h)
-      go false true more h = absurd (false≢true h)
+      go false true more h = cc
       go false false more h = refl
 
   pub stored_unknown : (r : R) (xs : List R) → Unknown (keys.key r) xs → stored keys r xs ≡ insert xs (rank keys (keys.key r) xs) r
@@ -45,15 +44,15 @@ module _ {R K : Type 0} (keys : Keys R K) where
       go : (a b : Bool) → (Unknown (keys.key r) xs → stored keys r xs ≡ insert xs (rank keys (keys.key r) xs) r) → is_some (cond a (found keys (keys.key r) xs) (cond b None (Some x))) ≡ false → cond a (x ∷ stored keys r xs) (cond b (r ∷ x ∷ xs) (r ∷ xs)) ≡ insert (x ∷ xs) (cond a (suc (rank keys (keys.key r) xs)) 0) r
       go true b more h = ap (λ (l : List R). x ∷ l) (more h)
       go false true more h = refl
-      go false false more h = absurd (true≢false h)
+      go false false more h = cc
 
   pub taken_known : (k : K) (xs : List R) → Known k xs → taken keys k xs ≡ remove xs (rank keys k xs)
-  taken_known k [] h = absurd (false≢true h)
+  taken_known k [] h = cc
   taken_known k (x ∷ xs) h = go (keys.before (keys.key x) k) (keys.before k (keys.key x)) (taken_known k xs) h
     where
       go : (a b : Bool) → (Known k xs → taken keys k xs ≡ remove xs (rank keys k xs)) → is_some (cond a (found keys k xs) (cond b None (Some x))) ≡ true → cond a (x ∷ taken keys k xs) (cond b (x ∷ xs) xs) ≡ remove (x ∷ xs) (cond a (suc (rank keys k xs)) 0)
       go true b more h = ap (λ (l : List R). x ∷ l) (more h)
-      go false true more h = absurd (false≢true h)
+      go false true more h = cc
       go false false more h = refl
 
   pub taken_unknown : (k : K) (xs : List R) → Unknown k xs → taken keys k xs ≡ xs
@@ -63,4 +62,4 @@ module _ {R K : Type 0} (keys : Keys R K) where
       go : (a b : Bool) → (Unknown k xs → taken keys k xs ≡ xs) → is_some (cond a (found keys k xs) (cond b None (Some x))) ≡ false → cond a (x ∷ taken keys k xs) (cond b (x ∷ xs) xs) ≡ x ∷ xs
       go true b more h = ap (λ (l : List R). x ∷ l) (more h)
       go false true more h = refl
-      go false false more h = absurd (true≢false h)
+      go false false more h = cc
