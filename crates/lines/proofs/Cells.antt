@@ -32,7 +32,7 @@ from_length from to i (suc n) = ap suc (from_length from to (suc i) n)
 from_at : (from to : Cell) (i n k : ℕ) (other : Cell) → k < n → get_or (cells_from from to i n) k other ≡ line_cell from to (i + k)
 from_at from to i zero k other h = absurd (omega arith)
 from_at from to i (suc n) zero other h = ap (line_cell from to) (sym (add-zero i))
-from_at from to i (suc n) (suc k) other h = from_at from to (suc i) n k other (omega arith) ∙ ap (line_cell from to) (let e : suc i + k ≡ i + suc k = omega arith in e)
+from_at from to i (suc n) (suc k) other h = from_at from to (suc i) n k other (omega arith) ∙ ap (line_cell from to) (omega arith)
 
 from_past : (from to : Cell) (i n k : ℕ) (other : Cell) → n ≤ k → get_or (cells_from from to i n) k other ≡ other
 from_past from to i zero k other h = refl
@@ -50,7 +50,7 @@ line_length from to = from_length from to 0 (suc (reach from to))
 
 pub line_at : (from to : Cell) (i : ℕ) (other : Cell) → i ≤ reach from to → get_or (line_cells from to) i other ≡ line_cell from to i
 unfolding line_cells
-line_at from to i other h = from_at from to 0 (suc (reach from to)) i other (omega arith) ∙ ap (line_cell from to) (let e : 0 + i ≡ i = omega arith in e)
+line_at from to i other h = from_at from to 0 (suc (reach from to)) i other (omega arith) ∙ ap (line_cell from to) (omega arith)
 
 pub line_past : (from to : Cell) (i : ℕ) (other : Cell) → reach from to < i → get_or (line_cells from to) i other ≡ other
 unfolding line_cells

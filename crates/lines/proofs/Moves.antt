@@ -1,16 +1,17 @@
 -- A coordinate of a line starts at one end, stops at the other, and never leaves the stretch between them.
-use Rattle.std.proofs.Common.{◌≡◌, ℕ, ◌+◌, ◌*◌, ◌/◌, ◌<◌, ◌≤◌, eqb, ◌⊎◌, ℤ, pos, negsuc, ◌+ℤ◌, ◌-ℤ◌, nat_abs, sym, refl, ap, ◌∙◌, inl, inr, mul-le-mul_right, div-lt_iff_lt-mul, arith}
+use Rattle.std.proofs.Common.{◌≡◌, ℕ, ◌+◌, ◌*◌, ◌/◌, ◌<◌, ◌≤◌, ◌⊎◌, ℤ, pos, negsuc, ◌+ℤ◌, ◌-ℤ◌, nat_abs, sym, refl, ap, ◌∙◌, inl, inr, mul-le-mul_right, div-lt_iff_lt-mul, arith}
 use native.Mathlib.Nat.{div-eq_of_lt, div-eq_of_lt-le}
 use borrow.Author.Differences.{ints}
-use Rattle.std.proofs.lemmas.Bool.{cond-true, cond-false, cases_eq, eq-eqb, ne_eqb}
+use Rattle.std.proofs.lemmas.Bool.{cases_eq}
+use Rattle.std.proofs.lemmas.Bool.Decides.{nat_tests}
 use Rattle.lines.specs.Lines.{moved, toward, stands}
 
 module _ (a d i : ℕ) where
   at-reach : d ≡ a → moved a d i ≡ i
-  at-reach e = cond-true (eqb d a) i ((2 * i * d + a) / (2 * a)) (eq-eqb d a e)
+  at-reach e = grind (arith, nat_tests)
 
   below_reach : (d ≡ a → ⊥) → moved a d i ≡ (2 * i * d + a) / (2 * a)
-  below_reach n = cond-false (eqb d a) i ((2 * i * d + a) / (2 * a)) (ne_eqb d a n)
+  below_reach n = grind (arith, nat_tests)
 
 -- a share of a smaller difference
 share_le : (a d i : ℕ) → d < a → i ≤ a → (2 * i * d + a) / (2 * a) ≤ d

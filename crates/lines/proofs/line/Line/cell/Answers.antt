@@ -1,4 +1,4 @@
-use Rattle.std.proofs.Common.{◌≡◌, ◌<◌, ◌≤◌, sym, ap, ◌∙◌, arith, w64, SFits, to_z, of_z, rules}
+use Rattle.std.proofs.Common.{◌≡◌, ◌<◌, ◌≤◌, sym, ◌∙◌, arith, w64, SFits, to_z, of_z, rules}
 use Rattle.std.proofs.lemmas.Int.{to_z-of_z}
 use Rattle.plane.proofs.Algebra.{same-cell}
 use Rattle.lines.specs.Lines.{reach, stands}
@@ -22,8 +22,6 @@ returns c =
     let rx : SFits w64 c.stands-x.result = search rules in
     let ry : SFits w64 c.stands-y.result = search rules in
     let short : i ≤ reach line.from line.to = omega (arith, line.whole) in
-    let x : to_z w64 (of_z w64 c.stands-x.result) ≡ stands (reach line.from line.to) line.from.x line.to.x i =
-    to_z-of_z w64 c.stands-x.result rx ∙ simp to_z-of_z at c.stands-x.ensures ∙ ap (λ a. stands a line.from.x line.to.x i) line.whole in
-    let y : to_z w64 (of_z w64 c.stands-y.result) ≡ stands (reach line.from line.to) line.from.y line.to.y i =
-    to_z-of_z w64 c.stands-y.result ry ∙ simp to_z-of_z at c.stands-y.ensures ∙ ap (λ a. stands a line.from.y line.to.y i) line.whole in
+    let x : to_z w64 (of_z w64 c.stands-x.result) ≡ stands (reach line.from line.to) line.from.x line.to.x i = let t = to_z-of_z w64 c.stands-x.result rx in let e = simp to_z-of_z at c.stands-x.ensures in cc line.whole in
+    let y : to_z w64 (of_z w64 c.stands-y.result) ≡ stands (reach line.from line.to) line.from.y line.to.y i = let t = to_z-of_z w64 c.stands-y.result ry in let e = simp to_z-of_z at c.stands-y.ensures in cc line.whole in
     same-cell x y ∙ sym (line_at line.from line.to i line.to short)
