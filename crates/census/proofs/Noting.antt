@@ -1,18 +1,18 @@
 -- A list of homes with one more, unless it is there.
-use Rattle.std.proofs.Common.{◌≡◌, Bool, true, false, cond, ◌⊎◌, List, [], ◌∷◌, ◌++◌, sym, refl, ◌∙◌, subst, inl, inr}
-use borrow.Author.Tests.{clash}
+use Rattle.std.proofs.Common.{◌≡◌, Bool, true, false, cond, ◌⊎◌, List, [], ◌∷◌, ◌++◌, sym, refl, subst, inl, inr}
+use Rattle.std.proofs.lemmas.Bool.{both_ways}
 use Rattle.plane.specs.declared.cell.Cell.{Cell}
 use Rattle.plane.specs.Cells.{same}
 use Rattle.plane.proofs.Order.{same_is, same_of}
 use Rattle.groups.specs.Lists.{In, some}
-use Rattle.groups.specs.Members.{some_in, in_some, T_true, true_T}
+use Rattle.groups.specs.Members.{some_in, in_some}
 use Rattle.census.specs.Homes.{Distinct}
 use Rattle.census.specs.Windows.{noted}
 use Rattle.census.proofs.Places.{in_either, in_left, in_right}
 
 -- ---- the test
 listed : (xs : List Cell) (h : Cell) → In h xs → some (same h) xs ≡ true
-listed xs h i = T_true (some (same h) xs) (in_some (same h) xs h i (same_of h h refl))
+listed xs h i = in_some (same h) xs h i (same_of h h refl)
 
 distinct_more : (xs : List Cell) (h : Cell) → Distinct xs → (In h xs → ⊥) → Distinct (xs ++ h ∷ [])
 distinct_more [] h d n = (λ i. i, tt)
@@ -29,8 +29,8 @@ module _ (xs : List Cell) (h : Cell) where
   by_listed P old new = go (some (same h) xs) refl
     where
       go : (b : Bool) → some (same h) xs ≡ b → P (cond b xs (xs ++ h ∷ []))
-      go true e = let w = some_in (same h) xs (true_T (some (same h) xs) e) in old (subst (λ (z : Cell). In z xs) (sym (same_is h w.0 w.2)) w.1)
-      go false e = new (λ i. clash (sym e ∙ listed xs h i))
+      go true e = let w = some_in (same h) xs e in old (subst (λ (z : Cell). In z xs) (sym (same_is h w.0 w.2)) w.1)
+      go false e = new (λ i. both_ways _ e (listed xs h i))
 
   pub noted_distinct : Distinct xs → Distinct (noted xs h)
   noted_distinct d = by_listed Distinct (λ _. d) (distinct_more xs h d)

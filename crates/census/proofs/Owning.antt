@@ -1,5 +1,5 @@
 -- The cells of a repeat that are their own homes: one for each class.
-use Rattle.std.proofs.Common.{◌≡◌, ℕ, ◌+◌, ◌≤◌, Bool, true, false, cond, T, List, [], ◌∷◌, length, pos, ◌+ℤ◌, nat_abs, sym, refl, ap, ◌∙◌, subst, inl, inr, mul-le-mul, zero-add, arith}
+use Rattle.std.proofs.Common.{◌≡◌, ℕ, ◌+◌, ◌≤◌, Bool, true, false, cond, List, [], ◌∷◌, length, pos, ◌+ℤ◌, nat_abs, sym, refl, ap, ◌∙◌, subst, inl, inr, mul-le-mul, zero-add, arith}
 use borrow.Author.Differences.{ints}
 use Rattle.plane.specs.declared.cell.Cell.{Cell}
 use Rattle.plane.specs.Cells.{AllWithin, Within, same}
@@ -10,7 +10,6 @@ use Rattle.plane.proofs.Algebra.{same-cell}
 use Rattle.plane.proofs.Order.{same_is, same_of, same_not}
 use Rattle.plane.proofs.Rectangles.{window_length, window_within}
 use Rattle.groups.specs.Lists.{In}
-use Rattle.groups.specs.Members.{T_true}
 use Rattle.groups.specs.Rules.{known, allowed}
 use Rattle.groups.specs.Tabled.{InRepeat, home_in, kinds_in, tabled}
 use Rattle.groups.specs.Homing.{tabled_laws, homes_least}
@@ -26,7 +25,7 @@ module _ (home : Cell → Cell) where
   own (c ∷ cs) = cond (same (home c) c) (c ∷ own cs) (own cs)
 
   pub own_more : (c : Cell) (cs : List Cell) → home c ≡ c → own (c ∷ cs) ≡ c ∷ own cs
-  own_more c cs e = ap (λ b. cond b (c ∷ own cs) (own cs)) (T_true (same (home c) c) (same_of (home c) c e))
+  own_more c cs e = ap (λ b. cond b (c ∷ own cs) (own cs)) (same_of (home c) c e)
 
   pub own_same : (c : Cell) (cs : List Cell) → (home c ≡ c → ⊥) → own (c ∷ cs) ≡ own cs
   own_same c cs h = ap (λ b. cond b (c ∷ own cs) (own cs)) (same_not (home c) c h)
@@ -36,7 +35,7 @@ module _ (home : Cell → Cell) where
   own_of (c ∷ cs) g i = go (same (home c) c) refl i (own_of cs g)
     where
       go : (b : Bool) → same (home c) c ≡ b → In g (cond b (c ∷ own cs) (own cs)) → (In g (own cs) → In g cs × (home g ≡ g)) → In g (c ∷ cs) × (home g ≡ g)
-      go true e (inl f) rest = (inl f, ap home f ∙ same_is (home c) c (subst T (sym e) tt) ∙ sym f)
+      go true e (inl f) rest = (inl f, ap home f ∙ same_is (home c) c e ∙ sym f)
       go true e (inr j) rest = (inr (rest j).0, (rest j).1)
       go false e j rest = (inr (rest j).0, (rest j).1)
 

@@ -1,5 +1,5 @@
 -- The search for a symbol.
-use Rattle.std.proofs.Common.{◌≡◌, ℕ, zero, suc, ◌+◌, ◌≤◌, Bool, true, false, cond, T, eqb, List, [], ◌∷◌, map, Some, None, Option, Bor, MatchOption, sym, refl, ap, ◌∙◌, add-one, arith, eqb→eq}
+use Rattle.std.proofs.Common.{◌≡◌, ℕ, zero, suc, ◌+◌, ◌≤◌, Bool, true, false, cond, eqb, List, [], ◌∷◌, map, Some, None, Option, Bor, MatchOption, sym, refl, ap, ◌∙◌, add-one, arith, eqb-true}
 use Rattle.std.specs.Prelude.{position}
 use Rattle.std.specs.List.{position_from}
 use Rattle.std.specs.Str.{bytes_eq}
@@ -45,14 +45,14 @@ named us ts s r _ e all =
 told_test : ℕ → Bool
 told_test k = eqb (number_named (symbol_of (suc k))) (suc k)
 
-whole : T (every_below told_test 17)
+whole : every_below told_test 17 ≡ true
 unfolding told_test number_named symbol_of symbols
-whole = tt
+whole = refl
 
 told : (n : ℕ) → 1 ≤ n → n ≤ 17 → number_named (symbol_of n) ≡ n
 unfolding told_test
 told zero l h = absurd (omega arith)
-told (suc k) l h = eqb→eq (number_named (symbol_of (suc k))) (suc k) (below_in told_test 17 whole k (omega arith))
+told (suc k) l h = eqb-true (number_named (symbol_of (suc k))) (suc k) (below_in told_test 17 whole k (omega arith))
 
 -- what the search finds has the symbol, or is 0
 found_from : (m k : ℕ) (s : List ℕ) → 1 ≤ named_from m k s → symbol_of (named_from m k s) ≡ s

@@ -1,32 +1,31 @@
 -- Where the rows of a group stand, and how large their numbers are: tests of the whole table.
-use Rattle.std.proofs.Common.{◌≡◌, ℕ, zero, suc, ◌+◌, ◌-◌, ◌≤◌, Bool, true, ◌&&◌, T, leb, ◌∷◌, map, take, drop, sym, refl, ap, ◌∙◌, ap₂, arith, leb→le}
+use Rattle.std.proofs.Common.{◌≡◌, ℕ, zero, suc, ◌+◌, ◌-◌, ◌≤◌, Bool, true, ◌&&◌, leb, ◌∷◌, map, take, drop, sym, refl, ap, ◌∙◌, ap₂, arith, leb-true}
+use Rattle.std.proofs.lemmas.Bool.{and_parts}
 use Rattle.std.proofs.lemmas.List.{take-map, drop-map}
 use Rattle.std.specs.Simd.{first_chunks}
 use Rattle.groups.specs.Table.{numbers, starts, row, rows, rows_from, first_row, end_row}
 use Rattle.groups.specs.Positions.{position_of}
 use Rattle.groups.specs.Rules.{known}
-use Rattle.groups.specs.Members.{both_left, both_right, true_T, every_below, below_in}
+use Rattle.groups.specs.Members.{every_below, below_in}
 
 abbrev bounds_test : ℕ → Bool
 bounds_test k = leb (first_row (suc k)) (end_row (suc k)) && leb (end_row (suc k)) 84
 
-whole : T (every_below bounds_test 17)
+whole : every_below bounds_test 17 ≡ true
 unfolding starts first_row end_row
-whole = tt
+whole = refl
 
 pub known_low : (n : ℕ) → known n ≡ true → 1 ≤ n
-known_low n e = leb→le 1 n (both_left (leb 1 n) (leb n 17) (true_T (known n) e))
+known_low n e = leb-true 1 n (and_parts (leb 1 n) (leb n 17) e).0
 
 pub known_high : (n : ℕ) → known n ≡ true → n ≤ 17
-known_high n e = leb→le n 17 (both_right (leb 1 n) (leb n 17) (true_T (known n) e))
+known_high n e = leb-true n 17 (and_parts (leb 1 n) (leb n 17) e).1
 
 bounds_of : (n : ℕ) → 1 ≤ n → n ≤ 17 → (first_row n ≤ end_row n) × (end_row n ≤ 84)
 bounds_of zero l h = absurd (omega arith)
 bounds_of (suc k) l h =
-    let t = below_in bounds_test 17 whole k (omega arith) in (
-      leb→le (first_row (suc k)) (end_row (suc k)) (both_left (leb (first_row (suc k)) (end_row (suc k))) (leb (end_row (suc k)) 84) t),
-      leb→le (end_row (suc k)) 84 (both_right (leb (first_row (suc k)) (end_row (suc k))) (leb (end_row (suc k)) 84) t),
-    )
+    let t = and_parts (leb (first_row (suc k)) (end_row (suc k))) (leb (end_row (suc k)) 84) (below_in bounds_test 17 whole k (omega arith)) in
+    (leb-true (first_row (suc k)) (end_row (suc k)) t.0, leb-true (end_row (suc k)) 84 t.1)
 
 pub row_bounds : (n : ℕ) → known n ≡ true → (first_row n ≤ end_row n) × (end_row n ≤ 84)
 row_bounds n e = bounds_of n (known_low n e) (known_high n e)

@@ -1,11 +1,11 @@
 -- The operations of a tabled group form a group.
-use Rattle.std.specs.Prelude.{◌≡◌, ℕ, ◌/◌, ◌%◌, ◌≤◌, Bool, true, false, not, ◌&&◌, T, [], ◌∷◌, ℤ, pos, negsuc, ◌+ℤ◌, ◌*ℤ◌, neg_ℤ, ◌==◌, nat_le, refl}
-use Rattle.std.proofs.Common.{sym, ap, ap₂, ◌∙◌, subst, arith, leb→le, eqb→eq}
+use Rattle.std.specs.Prelude.{◌≡◌, ℕ, ◌/◌, ◌%◌, ◌≤◌, Bool, true, false, not, [], ◌∷◌, ℤ, pos, negsuc, ◌+ℤ◌, ◌*ℤ◌, neg_ℤ, ◌==◌, nat_le, refl}
+use Rattle.std.proofs.Common.{sym, ap, ap₂, ◌∙◌, subst, arith, leb-true, eqb-true}
 use Rattle.std.proofs.Math.IntN.{+ℤ_comm}
 use Rattle.std.proofs.lemmas.Int.{ints}
+use Rattle.std.proofs.lemmas.Bool.{and_parts, both_ways, leb-false}
 use Rattle.std.proofs.lemmas.Bool.Decides.{Decides-int_eq}
 use Rattle.std.specs.Ordering.{int_eq}
-use borrow.Author.Tests.{clash}
 use Rattle.ints.proofs.Ring.{var, lit, ◌⊕◌, ◌⊖◌, ◌⊗◌, ring_by, hyp}
 use Rattle.plane.specs.Operation.{Operation, compose, identity, translation, turned, Unimodular}
 use Rattle.plane.specs.Laws.{Group}
@@ -13,10 +13,10 @@ use Rattle.plane.proofs.Algebra.{same_operation}
 use Rattle.groups.specs.declared.position.Position.{Position}
 use Rattle.groups.specs.Lists.{In, some}
 use Rattle.groups.specs.Table.{rows, unit, Product, Closed}
-use Rattle.groups.specs.Rules.{shifts_x, shifts_y, needs, period, allowed}
+use Rattle.groups.specs.Rules.{shifts_x, shifts_y, needs, allowed}
 use Rattle.groups.specs.Positions.{operation}
 use Rattle.groups.specs.Tabled.{Operates}
-use Rattle.groups.specs.Members.{both_left, both_right, true_T, in_some}
+use Rattle.groups.specs.Members.{in_some}
 
 -- ---- what the rules of the periods say of each position
 pub record Fit (p q : ℕ) (r : Position) : Type 0 where
@@ -30,55 +30,49 @@ pub record Rules (n p q : ℕ) : Type 0 where
   pub p_high : p ≤ 128
   pub q_low : 1 ≤ q
   pub q_high : q ≤ 128
-  pub square : T (needs (nat_le 10 n) (p == q))
-  pub across : T (needs (some shifts_x (rows n)) (p % 2 == 0))
-  pub down : T (needs (some shifts_y (rows n)) (q % 2 == 0))
+  pub square : needs (nat_le 10 n) (p == q) ≡ true
+  pub across : needs (some shifts_x (rows n)) (p % 2 == 0) ≡ true
+  pub down : needs (some shifts_y (rows n)) (q % 2 == 0) ≡ true
 
 pub rules : (n p q : ℕ) → allowed n p q ≡ true → Rules n p q
 rules n p q e =
-    let t5 = needs (some shifts_y (rows n)) (q % 2 == 0) in
-    let t4 = needs (some shifts_x (rows n)) (p % 2 == 0) in
-    let t3 = needs (nat_le 10 n) (p == q) in
-    let u3 = t4 && t5 in
-    let u2 = t3 && u3 in
-    let u1 = period q && u2 in
-    let s0 = true_T (period p && u1) e in
-    let s1 = both_right (period p) u1 s0 in
-    let s2 = both_right (period q) u2 s1 in
-    let s3 = both_right t3 u3 s2 in
-    let a = both_left (period p) u1 s0 in
-    let b = both_left (period q) u2 s1 in
+    let a = and_parts _ _ e in
+    let b = and_parts _ _ a.1 in
+    let s = and_parts _ _ b.1 in
+    let h = and_parts _ _ s.1 in
+    let ps = and_parts (nat_le 1 p) (nat_le p 128) a.0 in
+    let qs = and_parts (nat_le 1 q) (nat_le q 128) b.0 in
     record {
-      p_low = leb→le 1 p (both_left (nat_le 1 p) (nat_le p 128) a);
-      p_high = leb→le p 128 (both_right (nat_le 1 p) (nat_le p 128) a);
-      q_low = leb→le 1 q (both_left (nat_le 1 q) (nat_le q 128) b);
-      q_high = leb→le q 128 (both_right (nat_le 1 q) (nat_le q 128) b);
-      square = both_left t3 u3 s2;
-      across = both_left t4 t5 s3;
-      down = both_right t4 t5 s3;
+      p_low = leb-true 1 p ps.0;
+      p_high = leb-true p 128 ps.1;
+      q_low = leb-true 1 q qs.0;
+      q_high = leb-true q 128 qs.1;
+      square = s.0;
+      across = h.0;
+      down = h.1;
     }
 
-needed : (c b : Bool) → T (needs c b) → T c → T b
+needed : (c b : Bool) → needs c b ≡ true → c ≡ true → b ≡ true
 needed true b t u = t
-needed false b t u = absurd u
+needed false b t u = absurd (both_ways false refl u)
 
 -- a shift by half periods, twice, is one by periods: there is none, or the period is even
-doubled : (s : ℤ) (p : ℕ) (b : Bool) → int_eq s (pos 0) ≡ b → (T (not b) → T (p % 2 == 0)) → s *ℤ pos (p / 2) +ℤ s *ℤ pos (p / 2) ≡ s *ℤ pos p
+doubled : (s : ℤ) (p : ℕ) (b : Bool) → int_eq s (pos 0) ≡ b → (not b ≡ true → (p % 2 == 0) ≡ true) → s *ℤ pos (p / 2) +ℤ s *ℤ pos (p / 2) ≡ s *ℤ pos p
 doubled s p true e h =
     let z = (Decides-int_eq s (pos 0)).0 e in
     ring_by (s ∷ pos (p / 2) ∷ pos p ∷ []) (hyp (var 1 ⊕ var 1 ⊖ var 2) (var 0) (lit (pos 0)) z ∷ []) (var 0 ⊗ var 1 ⊕ var 0 ⊗ var 1) (var 0 ⊗ var 2) tt
 doubled s p false e h =
-    let m = eqb→eq (p % 2) 0 (h tt) in
+    let m = eqb-true (p % 2) 0 (h refl) in
     let z : pos (p / 2) +ℤ pos (p / 2) ≡ pos p = ap pos (omega arith) in
     ring_by (s ∷ pos (p / 2) ∷ pos p ∷ []) (hyp (var 0) (var 1 ⊕ var 1) (var 2) z ∷ []) (var 0 ⊗ var 1 ⊕ var 0 ⊗ var 1) (var 0 ⊗ var 2) tt
 
 -- a position exchanges no coordinates, or the periods are equal
-crossed : (n p q : ℕ) (z : ℤ) → T (needs (nat_le 10 n) (p == q)) → (n ≤ 9 → z ≡ pos 0) → z *ℤ pos q ≡ z *ℤ pos p
+crossed : (n p q : ℕ) (z : ℤ) → needs (nat_le 10 n) (p == q) ≡ true → (n ≤ 9 → z ≡ pos 0) → z *ℤ pos q ≡ z *ℤ pos p
 crossed n p q z t h = go (nat_le 10 n) refl t
   where
-    go : (b : Bool) → nat_le 10 n ≡ b → T (needs b (p == q)) → z *ℤ pos q ≡ z *ℤ pos p
-    go true e u = ap (λ (m : ℕ). z *ℤ pos m) (sym (eqb→eq p q u))
-    go false e u = let w = h (let l = borrow.Author.Tests.leb-false 10 n e in omega arith) in ring_by (z ∷ pos q ∷ pos p ∷ []) (hyp (var 1 ⊖ var 2) (var 0) (lit (pos 0)) w ∷ []) (var 0 ⊗ var 1) (var 0 ⊗ var 2) tt
+    go : (b : Bool) → nat_le 10 n ≡ b → needs b (p == q) ≡ true → z *ℤ pos q ≡ z *ℤ pos p
+    go true e u = ap (λ (m : ℕ). z *ℤ pos m) (sym (eqb-true p q u))
+    go false e u = let w = h (let l = leb-false 10 n e in omega arith) in ring_by (z ∷ pos q ∷ pos p ∷ []) (hyp (var 1 ⊖ var 2) (var 0) (lit (pos 0)) w ∷ []) (var 0 ⊗ var 1) (var 0 ⊗ var 2) tt
 
 pub fit : (n p q : ℕ) → Closed n (rows n) → Rules n p q → (r : Position) → In r (rows n) → Fit p q r
 fit n p q cl ru r i = record {
@@ -184,5 +178,5 @@ tabled_group n p q cl ru = record {
   single = λ g o u.
       let e = ap (λ (z : Operation). z.odd) (is_at n p q g o) in
       let f = ap (λ (z : Operation). z.odd) (is_at n p q (turned g) u) in
-      clash (sym f ∙ ap not e);
+      both_ways false refl (sym f ∙ ap not e);
 }

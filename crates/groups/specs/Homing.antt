@@ -1,7 +1,7 @@
 -- The laws of homes.
-use Rattle.std.specs.Prelude.{◌≡◌, ℕ, ◌/◌, ◌<◌, ◌≤◌, Bool, true, false, cond, not, T, ◌⊎◌, List, [], ◌∷◌, ℤ, pos, negsuc, ◌+ℤ◌, ◌-ℤ◌, ◌*ℤ◌, neg_ℤ, nat_le, unsigned_abs, refl}
-use Rattle.std.proofs.Common.{sym, ap, ◌∙◌, subst, inl, inr, arith, leb→le, lit≤}
-use borrow.Author.Tests.{clash}
+use Rattle.std.specs.Prelude.{◌≡◌, ℕ, ◌/◌, ◌<◌, ◌≤◌, Bool, true, false, cond, not, ◌⊎◌, List, [], ◌∷◌, ℤ, pos, negsuc, ◌+ℤ◌, ◌-ℤ◌, ◌*ℤ◌, neg_ℤ, nat_le, unsigned_abs, refl}
+use Rattle.std.proofs.Common.{sym, ap, ◌∙◌, subst, inl, inr, arith, leb-true, lit≤}
+use Rattle.std.proofs.lemmas.Bool.{and_from, and_parts, both_ways, not-true, not_from_false}
 use Rattle.ints.specs.Floor.{floor_mod, floor_div}
 use Rattle.ints.proofs.Floor.{floor_lt, floor_eq, floor_is, floor_cong_to}
 use Rattle.ints.proofs.Ring.{var, lit, ◌⊕◌, ◌⊗◌, neg, ring, ring_by, hyp}
@@ -18,7 +18,7 @@ use Rattle.groups.specs.Table.{rows, unit, Closed}
 use Rattle.groups.specs.Rules.{known, allowed}
 use Rattle.groups.specs.Positions.{operation, mirrors}
 use Rattle.groups.specs.Tabled.{Operates, reduced, image, first_of, least, home_in, carries, kinds_in, tabled, InRepeat, LeastImage, HomesLeast}
-use Rattle.groups.specs.Members.{both_left, both_right, both_T, true_T, T_true, some_in, in_some}
+use Rattle.groups.specs.Members.{some_in, in_some}
 use Rattle.plane.proofs.Order.{earlier_trans, earlier_flip, earlier-same, same_is, same_of}
 use Rattle.groups.specs.Closing.{table_closed}
 use Rattle.groups.specs.Grouping.{Rules, rules, at, operates, is_at, tabled_group}
@@ -143,24 +143,17 @@ sign_by : (z : ℤ) → (z ≡ pos 1) ⊎ (z ≡ negsuc 0) → (b : Bool) → ne
 sign_by z (inl e) b h = e ∙ ap sign (sym (ap negative e) ∙ h)
 sign_by z (inr e) b h = e ∙ ap sign (sym (ap negative e) ∙ h)
 
-not_T_false : (b : Bool) → T (not b) → b ≡ false
-not_T_false true t = absurd t
-not_T_false false t = refl
+carries_is : (p q : ℕ) (c h : Cell) (f : Bool) (r : Position) → carries p q c h f r ≡ true → (image p q c r ≡ h) × (mirrors r ≡ f)
+carries_is p q c h true r t = let k = and_parts (same (image p q c r) h) (mirrors r) t in (same_is (image p q c r) h k.0, k.1)
+carries_is p q c h false r t = let k = and_parts (same (image p q c r) h) (not (mirrors r)) t in (same_is (image p q c r) h k.0, not-true (mirrors r) k.1)
 
-false_not_T : (b : Bool) → b ≡ false → T (not b)
-false_not_T b e = subst (λ (w : Bool). T (not w)) (sym e) tt
-
-carries_is : (p q : ℕ) (c h : Cell) (f : Bool) (r : Position) → T (carries p q c h f r) → (image p q c r ≡ h) × (mirrors r ≡ f)
-carries_is p q c h true r t = (same_is (image p q c r) h (both_left (same (image p q c r) h) (mirrors r) t), T_true (mirrors r) (both_right (same (image p q c r) h) (mirrors r) t))
-carries_is p q c h false r t = (same_is (image p q c r) h (both_left (same (image p q c r) h) (not (mirrors r)) t), not_T_false (mirrors r) (both_right (same (image p q c r) h) (not (mirrors r)) t))
-
-is_carries : (p q : ℕ) (c h : Cell) (f : Bool) (r : Position) → image p q c r ≡ h → mirrors r ≡ f → T (carries p q c h f r)
-is_carries p q c h true r e m = both_T (same (image p q c r) h) (mirrors r) (same_of (image p q c r) h e) (true_T (mirrors r) m)
-is_carries p q c h false r e m = both_T (same (image p q c r) h) (not (mirrors r)) (same_of (image p q c r) h e) (false_not_T (mirrors r) m)
+is_carries : (p q : ℕ) (c h : Cell) (f : Bool) (r : Position) → image p q c r ≡ h → mirrors r ≡ f → carries p q c h f r ≡ true
+is_carries p q c h true r e m = and_from (same (image p q c r) h) (mirrors r) (same_of (image p q c r) h e) m
+is_carries p q c h false r e m = and_from (same (image p q c r) h) (not (mirrors r)) (same_of (image p q c r) h e) (not_from_false (mirrors r) m)
 
 some_kind : (n p q : ℕ) → Closed n (rows n) → Rules n p q → (c h : Cell) (f : Bool) → some (carries p q c h f) (rows n) ≡ true → CarriedAs (Operates n p q) false f c h
 some_kind n p q cl ru c h f e =
-    let k = some_in (carries p q c h f) (rows n) (true_T (some (carries p q c h f) (rows n)) e) in
+    let k = some_in (carries p q c h f) (rows n) e in
     let w = carries_is p q c h f k.0 k.2 in
     (bring p q c k.0, operates n p q k.0 _ _ k.1, bring_carries p q ru.p_low ru.q_low c k.0 ∙ w.0, refl, sign_by (turn k.0) (cl.unimodular k.0 k.1) f w.1)
 
@@ -168,18 +161,18 @@ kind_some : (n p q : ℕ) → Rules n p q → (c h : Cell) → InRepeat p q h �
 kind_some n p q ru c h r o f k =
     let w = k.1.position in
     let m : mirrors w ≡ f = ap (λ (g : Operation). negative (determinant g)) (sym (is_at n p q k.0 k.1)) ∙ ap negative k.4 ∙ negative-sign f in
-    T_true (some (carries p q c h f) (rows n)) (in_some (carries p q c h f) (rows n) w k.1.listed (is_carries p q c h f w (carried_image n p q ru.p_low ru.q_low c h r k.0 k.1 k.2) m))
+    in_some (carries p q c h f) (rows n) w k.1.listed (is_carries p q c h f w (carried_image n p q ru.p_low ru.q_low c h r k.0 k.1 k.2) m)
 
 never_odd : (n p q : ℕ) (c h : Cell) (f : Bool) → CarriedAs (Operates n p q) true f c h → ⊥
-never_odd n p q c h f k = clash (sym (ap (λ (g : Operation). g.odd) (is_at n p q k.0 k.1)) ∙ k.3)
+never_odd n p q c h f k = both_ways false refl (sym (ap (λ (g : Operation). g.odd) (is_at n p q k.0 k.1)) ∙ k.3)
 
 exactly : (n p q : ℕ) → Closed n (rows n) → Rules n p q → (c : Cell) (o f : Bool)
     → (has (kinds_in n p q c) o f ≡ true → CarriedAs (Operates n p q) o f c (home_in n p q c)) × (CarriedAs (Operates n p q) o f c (home_in n p q c) → has (kinds_in n p q c) o f ≡ true)
 unfolding kinds_in
 exactly n p q cl ru c false false = (some_kind n p q cl ru c (home_in n p q c) false, kind_some n p q ru c (home_in n p q c) (home_least n p q cl ru c).inside false false)
 exactly n p q cl ru c false true = (some_kind n p q cl ru c (home_in n p q c) true, kind_some n p q ru c (home_in n p q c) (home_least n p q cl ru c).inside false true)
-exactly n p q cl ru c true false = (λ e. absurd (clash e), λ k. absurd (never_odd n p q c (home_in n p q c) false k))
-exactly n p q cl ru c true true = (λ e. absurd (clash e), λ k. absurd (never_odd n p q c (home_in n p q c) true k))
+exactly n p q cl ru c true false = (λ e. absurd (both_ways false refl e), λ k. absurd (never_odd n p q c (home_in n p q c) false k))
+exactly n p q cl ru c true true = (λ e. absurd (both_ways false refl e), λ k. absurd (never_odd n p q c (home_in n p q c) true k))
 
 -- ---- the laws
 near : (p : ℕ) (x : ℤ) (k : ℕ) → x ≡ pos k → k < p → p ≤ 128 → unsigned_abs x ≤ 128
@@ -216,8 +209,8 @@ laws_of n p q cl ru = record {
 
 closed_of : (n : ℕ) → known n ≡ true → Closed n (rows n)
 closed_of n e =
-    let t = true_T (known n) e in
-    table_closed n (leb→le 1 n (both_left (nat_le 1 n) (nat_le n 17) t)) (leb→le n 17 (both_right (nat_le 1 n) (nat_le n 17) t))
+    let t = and_parts (nat_le 1 n) (nat_le n 17) e in
+    table_closed n (leb-true 1 n t.0) (leb-true n 17 t.1)
 
 pub tabled_laws : (n p q : ℕ) → known n ≡ true → allowed n p q ≡ true → Lawful (tabled n p q)
 tabled_laws n p q k a = laws_of n p q (closed_of n k) (rules n p q a)

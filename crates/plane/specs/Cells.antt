@@ -1,7 +1,8 @@
 -- Cells: where they lie, and their order.
 --     cell      a pair of whole numbers without limit: x its column, y its row
 --     earlier   in a smaller row, or in the same row and a smaller column; the least of several cells is the one that no other is earlier than
-use Rattle.std.specs.Prelude.{ℕ, ◌≤◌, Bool, true, false, ◌&&◌, ◌||◌, List, [], ◌∷◌, ℤ, pos, negsuc, ◌==◌, int_le, int_lt, nat_le, unsigned_abs}
+use Rattle.std.specs.Prelude.{ℕ, ◌≤◌, Bool, true, ◌&&◌, ◌||◌, List, [], ◌∷◌, int_le, int_lt, nat_le, unsigned_abs}
+use Rattle.std.specs.Ordering.{int_eq}
 use Rattle.plane.specs.declared.cell.Cell.{Cell}
 
 -- at most n columns and n rows from the origin
@@ -16,16 +17,9 @@ inside n p = nat_le (unsigned_abs p.x) n && nat_le (unsigned_abs p.y) n
 abbrev pub earlier : Cell → Cell → Bool
 earlier p q = int_lt p.y q.y || int_le p.y q.y && int_lt p.x q.x
 
--- whether two integers are equal
-abbrev pub eq_z : ℤ → ℤ → Bool
-eq_z (pos a) (pos b) = a == b
-eq_z (pos a) (negsuc b) = false
-eq_z (negsuc a) (pos b) = false
-eq_z (negsuc a) (negsuc b) = a == b
-
 -- whether two cells are one
 abbrev pub same : Cell → Cell → Bool
-same p q = eq_z p.x q.x && eq_z p.y q.y
+same p q = int_eq p.x q.x && int_eq p.y q.y
 
 -- every cell of a list is at most n columns and n rows from the origin
 abbrev pub AllWithin : ℕ → List Cell → Type 0
