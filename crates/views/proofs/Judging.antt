@@ -11,9 +11,9 @@ use Rattle.views.specs.declared.refusal.WindowRefused.TheVariants.{Side, OffSpan
 use Rattle.views.specs.Windows.{picture_size, window_refusal}
 
 passes : (p q : Bool) (rest : Option WindowRefused) → cond p (Some NoSide) (cond (not q) (Some BeyondSpan) None) ≡ None → (q ≡ true) × (cond p (Some Side) (cond (not q) (Some OffSpan) rest) ≡ rest)
-passes true q rest e = (cc, cc)
+passes true q rest e = cc
 passes false true rest e = (refl, refl)
-passes false false rest e = (cc, cc)
+passes false false rest e = cc
 
 module _ (span : ℕ) (r : Rectangle) (fits : rectangle_refusal span r ≡ None) where
   -- all its cells are within the span
