@@ -31,11 +31,11 @@ pub record Entered (m : Meaning) (strokes : ℕ) (mark : Mark) (from to : Cell) 
   pub end : Within m.span to
 
 none_of : (a b c d : Bool) → cond a (Some TooManyStrokes) (cond b (Some Ink) (cond (not (c && d)) (Some OffSpan) None)) ≡ None → (a ≡ false) × (b ≡ false) × (c ≡ true) × (d ≡ true)
-none_of true b c d e = (cc, cc, cc, cc)
-none_of false true c d e = (cc, cc, cc, cc)
+none_of true b c d e = cc
+none_of false true c d e = cc
 none_of false false true true e = (refl, refl, refl, refl)
-none_of false false true false e = (cc, cc, cc, cc)
-none_of false false false d e = (cc, cc, cc, cc)
+none_of false false true false e = cc
+none_of false false false d e = cc
 
 pub entered : (m : Meaning) (strokes : ℕ) (mark : Mark) (from to : Cell) → entry_refusal m strokes mark from to ≡ None → Entered m strokes mark from to
 entered m strokes mark from to e =
