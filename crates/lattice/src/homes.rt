@@ -14,10 +14,10 @@ impl Reduced {
         requires { (self.b < self.p) × (self.p ≤ 131_072) × (1 ≤ self.d) × (self.d ≤ 131_072) × Within 1_000_000 at }
         ensures { result ≡ boxed self at }
     {
-        let d = self.d as i64;
+        let d = i64::from(self.d);
         let y = floor_mod(at.y, d);
         let rows = floor_div(at.y, d);
-        let x = floor_mod(at.x - product(rows, self.b as i64), self.p as i64);
+        let x = floor_mod(at.x - product(rows, i64::from(self.b)), i64::from(self.p));
         Cell { x, y }
     }
 }

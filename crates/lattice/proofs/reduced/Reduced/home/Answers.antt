@@ -1,13 +1,9 @@
-use Rattle.std.proofs.Common.{◌≡◌, ℕ, ◌≤◌, pos, ◌-ℤ◌, ◌*ℤ◌, nat_abs, ap, ◌∙◌, ap₂, arith, w64, to_z}
-use borrow.Author.Differences.{ints}
+use Rattle.std.proofs.Common.{◌≡◌, pos, ◌-ℤ◌, ◌*ℤ◌, nat_abs, ap, ◌∙◌, ap₂, arith, w64}
 use Rattle.ints.specs.Floor.{floor_mod, floor_div}
 use Rattle.ints.proofs.Sizes.{z64, through_64, difference_is}
 use Rattle.std.proofs.lemmas.Int.{to_z-of_z}
 use Rattle.plane.proofs.Algebra.{same-cell}
 use Rattle.lattice.proofs.reduced.Reduced.home.Goals as goal
-
-unsigned : (n : ℕ) → n ≤ 131_072 → to_z w64 n ≡ pos n
-unsigned n h = omega (arith, ints)
 
 pub returns : goal.returns
 returns c =
@@ -15,9 +11,9 @@ returns c =
     let x = c.args.at.x in
     let y = c.args.at.y in
     let rows = c.floor_div-rows.result in
-    let p : to_z w64 t.p ≡ pos t.p = unsigned t.p c.requires.1 in
-    let b : to_z w64 t.b ≡ pos t.b = unsigned t.b (omega (arith, c.requires.0, c.requires.1)) in
-    let d : to_z w64 t.d ≡ pos t.d = unsigned t.d c.requires.3 in
+    let p : z64 c.from-2.result ≡ pos t.p = to_z-of_z w64 c.from-2.result (record { sfits = c.from-2.type_inv }) ∙ c.from-2.ensures in
+    let b : z64 c.from.result ≡ pos t.b = to_z-of_z w64 c.from.result (record { sfits = c.from.type_inv }) ∙ c.from.ensures in
+    let d : z64 c.from-d.result ≡ pos t.d = to_z-of_z w64 c.from-d.result (record { sfits = c.from-d.type_inv }) ∙ c.from-d.ensures in
     let ty : z64 y ≡ y = through_64 y (omega (arith, c.requires.4.1)) in
     -- the row, and how many rows of the reduced vectors were taken from it
     let row : c.floor_mod-y.result ≡ pos (floor_mod y t.d) = c.floor_mod-y.ensures ∙ ap₂ (λ z n. pos (floor_mod z n)) ty (ap nat_abs d) in
