@@ -1,7 +1,8 @@
 -- The laws of an oblique symmetry.
-use Rattle.std.specs.Prelude.{◌≡◌, ℕ, ◌<◌, ◌≤◌, Bool, true, false, not, [], ◌∷◌, ℤ, pos, negsuc, ◌+ℤ◌, ◌-ℤ◌, ◌*ℤ◌, nat_abs, refl}
+use Rattle.std.specs.Prelude.{◌≡◌, ℕ, ◌<◌, ◌≤◌, Bool, true, false, not, [], ◌∷◌, ℤ, pos, ◌+ℤ◌, ◌-ℤ◌, ◌*ℤ◌, nat_abs, refl}
 use Rattle.std.proofs.Common.{sym, ap, ap₂, ◌∙◌, inl, arith, mul_comm, lit≤}
 use Rattle.std.proofs.Math.IntN.{pos-ne-negsuc}
+use Rattle.std.proofs.lemmas.Bool.{both_ways}
 use Rattle.ints.proofs.Ring.{var, lit, ◌⊕◌, ◌⊖◌, ◌⊗◌, ring, ring_by, hyp}
 use Rattle.plane.specs.declared.cell.Cell.{Cell}
 use Rattle.plane.specs.Operation.{Operation, carry, compose, determinant, translation}
@@ -17,9 +18,6 @@ use Rattle.lattice.specs.Combining.{less, mixed, none}
 use Rattle.lattice.specs.Boxing.{carried_by, home_distance, in_box, only}
 use Rattle.lattice.specs.Sizes.{small_is, area_some, area_bound, factor_at_most}
 use Rattle.lattice.specs.Euclid.{reduces}
-
-clash {ℓ} : {X : Type ℓ} → true ≡ false → X
-clash e = let z : ◌≡◌ {A = ℤ} (pos 0) (negsuc 0) = cc in absurd (pos-ne-negsuc 0 0 z)
 
 -- ---- the group
 x_sum : (x x' y' : ℤ) → pos 1 *ℤ x' +ℤ pos 0 *ℤ y' +ℤ x ≡ pos 1 *ℤ x +ℤ pos 1 *ℤ x'
@@ -50,15 +48,15 @@ lattice_group v = record {
         (pos 0 -ℤ pos 1 *ℤ m.0, pos 0 -ℤ pos 1 *ℤ m.1, less v (pos 1) (pos 0) (pos 0) m.0 m.1 (none v) m.2, refl),
         ap (compose h) m.3 ∙ same_operation refl refl refl refl (x_undone m.0 m.1) (y_undone m.0 m.1) refl,
       );
-  single = λ g m n. clash (sym (ap (λ (h : Operation). not h.odd) m.3) ∙ ap (λ (h : Operation). h.odd) n.3);
+  single = λ g m n. both_ways false refl (sym (ap (λ (h : Operation). h.odd) n.3) ∙ ap (λ (h : Operation). not h.odd) m.3);
 }
 
 -- ---- kinds
 exactly : (v : Vectors) (p q : Cell) → Carried (lattice v) p q → (o f : Bool) → (has proper_alone o f ≡ true → CarriedAs (lattice v) o f p q) × (CarriedAs (lattice v) o f p q → has proper_alone o f ≡ true)
 exactly v p q c false false = (λ _. (c.0, c.1, c.2, ap (λ (h : Operation). h.odd) c.1.3, ap determinant c.1.3), λ _. refl)
-exactly v p q c true false = (λ e. clash (sym e), λ k. clash (sym k.3 ∙ ap (λ (h : Operation). h.odd) k.1.3))
-exactly v p q c true true = (λ e. clash (sym e), λ k. clash (sym k.3 ∙ ap (λ (h : Operation). h.odd) k.1.3))
-exactly v p q c false true = (λ e. clash (sym e), λ k. absurd (pos-ne-negsuc 1 0 (sym (ap determinant k.1.3) ∙ k.4)))
+exactly v p q c true false = (λ e. absurd (both_ways false refl e), λ k. absurd (both_ways false refl (sym (ap (λ (h : Operation). h.odd) k.1.3) ∙ k.3)))
+exactly v p q c true true = (λ e. absurd (both_ways false refl e), λ k. absurd (both_ways false refl (sym (ap (λ (h : Operation). h.odd) k.1.3) ∙ k.3)))
+exactly v p q c false true = (λ e. absurd (both_ways false refl e), λ k. absurd (pos-ne-negsuc 1 0 (sym (ap determinant k.1.3) ∙ k.4)))
 
 -- ---- homes
 between : (a b p q : ℤ) → a ≡ b → (a -ℤ p) -ℤ pos 1 *ℤ (b -ℤ q) ≡ q -ℤ p
