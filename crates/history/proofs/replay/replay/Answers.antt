@@ -14,7 +14,17 @@ use Rattle.history.specs.Histories.{Lent, Told}
 use Rattle.history.specs.Twins.{TwinsAgree}
 use Rattle.history.proofs.Runs.{Along, Beyond, along_open, along_put, beyond_put, told_open, closed, told_closed}
 use Rattle.history.proofs.TwinRuns.{twins_agree}
+use Rattle.history.proofs.replay.replay.Given as given
 use Rattle.history.proofs.replay.replay.Goals as goal
+use Rattle.history.proofs.replay.replay.Goals.{After-loop-drawn}
+
+-- every call of the open sheet is answered
+drawn : (g : given.Over) (c : goal.After-loop-drawn g) → let b = g.C.Canvas.board c.args.canvas.now in Along (g.S.Symmetry.meaning c.args.symmetry.now) b.frame b.seats c.args.palette.now c.args.output.now c.loop-drawn.drawing c.loop-drawn.sheet.strokes (g.C.Canvas.board c.loop-drawn.canvas) c.loop-drawn.at c.loop-drawn.output
+drawn g c =
+    let b = g.C.Canvas.board c.args.canvas.now in
+    let l = c.loop-drawn in
+    let h : length l.drawing ≤ l.drawn-index = omega arith in
+    subst (λ xs. Along (g.S.Symmetry.meaning c.args.symmetry.now) b.frame b.seats c.args.palette.now c.args.output.now xs l.sheet.strokes (g.C.Canvas.board l.canvas) l.at l.output) (take_all l.drawn-index l.drawing h) l.invariant.along
 
 pub loop-drawn-init : goal.loop-drawn-init
 loop-drawn-init g c = record {
@@ -42,8 +52,7 @@ loop-viewed-init g c =
     let strokes = c.loop-drawn.sheet.strokes in
     let at = c.loop-drawn.at in
     let out : List ℕ = c.loop-drawn.output in
-    let h : length es ≤ c.loop-drawn.drawn-index = omega arith in
-    let a : Along m b.frame b.seats c.args.palette.now c.args.output.now es strokes d at out = subst (λ xs. Along m b.frame b.seats c.args.palette.now c.args.output.now xs strokes d at out) (take_all c.loop-drawn.drawn-index es h) c.loop-drawn.invariant.along in
+    let a = drawn g (goal.at.loop-viewed-init g c).After-loop-drawn in
     record {
       beyond = subst (λ (s : ClosedSheet). Beyond m b.frame b.seats c.args.palette.now c.args.output.now es [] s.held s.strokes d at out) (sym c.close-closed.ensures) (closed m b.frame b.seats c.args.palette.now c.args.output.now es strokes d at out a);
       calls = refl;
@@ -70,9 +79,8 @@ returns-in-None g c =
     let strokes = c.loop-drawn.sheet.strokes in
     let at = c.loop-drawn.at in
     let out : List ℕ = c.loop-drawn.output in
-    let h : length es ≤ c.loop-drawn.drawn-index = omega arith in
     let lent : Lent = record { palette = c.args.palette.now; before = c.args.output.now; after = out } in
-    let a : Along m b.frame b.seats c.args.palette.now c.args.output.now es strokes d at out = subst (λ xs. Along m b.frame b.seats c.args.palette.now c.args.output.now xs strokes d at out) (take_all c.loop-drawn.drawn-index es h) c.loop-drawn.invariant.along in
+    let a = drawn g (goal.at.returns-in-None g c).After-loop-drawn in
     let t : Told (setting m b.frame) b.seats lent es None (shown_ink m d) = told_open m b.frame b.seats c.args.palette.now c.args.output.now cl es strokes d at out a in
     let w : TwinsAgree (setting m b.frame) b.seats lent es None = twins_agree m b.frame cl b.seats lent es None (shown_ink m d) t in
     record {
