@@ -45,9 +45,10 @@ returns-in_err-map_err g c =
 pub loop-at-preserved : goal.loop-at-preserved
 loop-at-preserved g c =
     let m = g.S.Symmetry.meaning c.args.symmetry.now in
+    let whole = lay_all m (g.C.Canvas.board c.args.canvas.now) c.args.mark (line_cells c.args.line.now.from c.args.line.now.to) in
     let is = c.in-Some.ensures.steps in
     record {
-      ahead = ahead_more m c.args.mark _ c.loop-at.laid (g.C.Canvas.board c.loop-at.canvas) c.loop-at.at-iterator c.loop-at.invariant.ahead c.in-Some.at c.next.new.self is tt (g.C.Canvas.board c.lay.new.canvas) (search rules) c.lay.ensures.after;
+      ahead = ahead_more m c.args.mark whole c.loop-at.laid (g.C.Canvas.board c.loop-at.canvas) c.loop-at.at-iterator c.loop-at.invariant.ahead c.in-Some.at c.next.new.self is tt (g.C.Canvas.board c.lay.new.canvas) (search rules) c.lay.ensures.after;
       within = (subst (AllWithin m.span) is c.loop-at.invariant.within).1;
       few = omega (arith, c.loop-at.invariant.few, ap length is);
     }

@@ -1,14 +1,8 @@
-use Rattle.std.proofs.Common.{sym, ap, ◌∙◌, subst, ap₂}
-use Rattle.plane.specs.Cells.{AllWithin}
+use Rattle.std.proofs.Common.{sym, ap, ◌∙◌, ap₂}
 use Rattle.lines.specs.Lines.{line_cells}
 use Rattle.sheet.specs.Laying.{lay_all}
 use Rattle.sheet.specs.Strokes.{attempt, laying_answer, stroke_answer}
 use Rattle.sheet.proofs.strokes.draw.Goals as goal
-
-pub lay_line-requires : goal.lay_line-requires
-lay_line-requires g c =
-    let t = c.in_ok-line.ensures in
-    subst (AllWithin (g.S.Symmetry.meaning c.args.symmetry.now).span) (sym (ap₂ line_cells t.1 t.2)) t.3
 
 pub returns : goal.returns
 returns g c =
