@@ -1,7 +1,6 @@
-use Rattle.std.proofs.Common.{◌≡◌, take, sym, ap, ◌∙◌}
-use Rattle.views.specs.Windows.{window_answer, window_output}
+use Rattle.std.proofs.Common.{◌≡◌, take, ap, ◌∙◌}
+use Rattle.views.specs.Windows.{window_output}
 use Rattle.history.specs.declared.calls.Answer.TheVariants.{Windowed}
-use Rattle.history.specs.Outright.{look_answer, look_output}
 use Rattle.history.proofs.Painted.{take_some}
 use Rattle.history.proofs.makes.look.Goals as goal
 
@@ -15,6 +14,6 @@ returns-in-Window g c =
     let cut : take c.min.result palette ≡ take w.palette palette = take_some palette w.palette c.min.result c.min.ensures in
     let r = w.rectangle in
     record {
-      answer = ap Windowed (c.window.ensures.answer ∙ ap (λ inks. window_answer m r.corner r.width r.height inks bytes) cut) ∙ sym (ap (λ l. look_answer m b palette l bytes) c.in-Window.is);
-      output = c.window.ensures.output ∙ ap (λ inks. window_output m b r.corner r.width r.height inks bytes) cut ∙ sym (ap (λ l. look_output m b palette l bytes) c.in-Window.is);
+      answer = rw c.in-Window.is (ap Windowed (rw cut at c.window.ensures.answer));
+      output = rw c.in-Window.is (c.window.ensures.output ∙ ap (λ inks. window_output m b r.corner r.width r.height inks bytes) cut);
     }
