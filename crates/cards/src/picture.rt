@@ -29,10 +29,8 @@ pub struct Picture {
 
 // The mark of a home among the homes of the window.
 fn mark(homes: &[Cell], home: Cell) -> u8 {
-    match homes.iter().position(|other| *other == home) {
-        Some(class) => MARKS[class % 62],
-        None => b'?',
-    }
+    let class = homes.iter().position(|other| *other == home);
+    class.map_or(b'?', |class| MARKS[class % 62])
 }
 
 // The marks of the cells of a window.

@@ -27,10 +27,9 @@ pub trait ReadCall {
 
 // The most bytes that a picture of a rectangle takes: 15 before the cells, and three for each.
 fn picture_size(rectangle: Rectangle) -> usize {
-    let side = |n: i64| u8::try_from(n).ok().filter(|side| (1..=128).contains(side));
-    match (side(rectangle.width), side(rectangle.height)) {
-        (Some(width), Some(height)) => 15 + 3 * usize::from(width) * usize::from(height),
-        _ => 0,
+    match rectangle.within(u32::MAX) {
+        Ok(window) => 15 + 3 * usize::from(window.width) * usize::from(window.height),
+        Err(_) => 0,
     }
 }
 

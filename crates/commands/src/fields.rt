@@ -208,10 +208,7 @@ impl<'a> Fields<'a> {
     }
 
     fn text(&mut self, wanted: Wanted) -> Result<&'a str, Trouble> {
-        match self.next() {
-            Some(field) => Ok(field),
-            None => Err(self.missing(wanted)),
-        }
+        self.next().ok_or(self.missing(wanted))
     }
 
     // The next field, read as what it has to be.
@@ -223,10 +220,7 @@ impl<'a> Fields<'a> {
         requires { F.IsAlwaysCallable parse }
     {
         let text = self.text(wanted)?;
-        match parse(text) {
-            Some(value) => Ok(value),
-            None => Err(self.trouble(Fault::Other(wanted))),
-        }
+        parse(text).ok_or(self.trouble(Fault::Other(wanted)))
     }
 }
 

@@ -15,10 +15,7 @@ mod help;
 
 // Whether a line begins with a command that the console knows.
 fn is_known(line: &str) -> bool {
-    let name = match line.split_once(' ') {
-        Some((name, _)) => name,
-        None => line,
-    };
+    let name = line.split_once(' ').map_or(line, |(name, _)| name);
     matches!(
         name,
         "make" | "fold" | "reduce" | "classes" | "card" | "help"
@@ -76,10 +73,8 @@ fn run(rt: &HostRuntime, number: u64, bytes: &[u8], tally: &mut Tally) -> io::Re
 fn main(rt: HostRuntime) -> io::Result<()> {
     let mut input = Vec::new(rt.alloc());
     rt.stdin().read_to_end(&mut input)?;
-    let mut tally = Tally::none();
-    let mut number: u64 = 0;
-    for line in input.as_slice().split(|byte| *byte == b'\n') {
-        number = number.saturating_add(1);
+    let mut tally = Tally::default();
+    for (number, line) in (1..u64::MAX).zip(input.as_slice().split(|byte| *byte == b'\n')) {
         run(&rt, number, line, &mut tally)?;
     }
     println!(rt; "{tally}")

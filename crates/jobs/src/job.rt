@@ -47,10 +47,10 @@ impl<'a> Subject<'a> {
 
 // Prints the lines of a record: each call with its answer, which only want of memory leaves out.
 fn tell(teller: &mut Teller, record: &Record, output: &[u8], heading: Heading) -> io::Result<()> {
-    let closed: &[Viewed] = match &record.viewing {
-        Some(viewing) => viewing.as_slice(),
-        None => &[],
-    };
+    let closed: &[Viewed] = record
+        .viewing
+        .as_ref()
+        .map_or(&[], |viewing| viewing.as_slice());
     let mut drawn = record.drawing.as_slice().iter();
     let mut viewed = closed.iter();
     let mut rest = output;

@@ -10,9 +10,6 @@ pub struct Line<'a> {
 impl<'a> Line<'a> {
     // Its text, or nothing where it is not text in UTF-8.
     pub(crate) fn text(&self) -> &'a str {
-        match std::str::from_utf8(self.bytes) {
-            Ok(text) => text,
-            Err(_) => "",
-        }
+        std::str::from_utf8(self.bytes).unwrap_or("")
     }
 }

@@ -3,7 +3,7 @@ use super::job::Job;
 use super::line::Line;
 use super::teller::Teller;
 use commands::command::{Command, ReadLine};
-use replies::tally::{Count, Tally};
+use replies::tally::Tally;
 use std::alloc::Global;
 use std::io;
 use std::io::Read;
@@ -40,9 +40,7 @@ fn run_line<'a>(teller: &mut Teller, line: Line<'a>, job: &mut Job<'a>) -> io::R
 
 fn run_lines(teller: &mut Teller, input: &[u8]) -> io::Result<()> {
     let mut job = Job::new(PALETTE);
-    let mut number: u64 = 0;
-    for bytes in input.split(|byte| *byte == b'\n') {
-        number = number.saturating_add(1);
+    for (number, bytes) in (1..u64::MAX).zip(input.split(|byte| *byte == b'\n')) {
         run_line(teller, Line { number, bytes }, &mut job)?;
     }
     job.end(teller)
@@ -54,7 +52,7 @@ impl Console for HostRuntime {
         self.stdin().read_to_end(&mut input)?;
         let mut teller = Teller {
             rt: self,
-            tally: Tally::none(),
+            tally: Tally::default(),
         };
         run_lines(&mut teller, input.as_slice())?;
         let tally = teller.tally;

@@ -42,10 +42,7 @@ impl fmt::Display for Hex<'_> {
 
 // The last field of a line.
 fn last_field(text: &str) -> &str {
-    match text.rsplit_once(' ') {
-        Some((_, last)) => last,
-        None => text,
-    }
+    text.rsplit_once(' ').map_or(text, |(_, last)| last)
 }
 
 impl<'r> Teller<'r> {

@@ -1,7 +1,7 @@
 // What a run did.
 use std::fmt;
 
-#[derive(Clone, Copy)]
+#[derive(Clone, Copy, Default)]
 pub struct Tally {
     pub answers: u64,
     pub refusals: u64,
@@ -10,9 +10,6 @@ pub struct Tally {
 
 // A command is answered or refused; any other line is a puzzle.
 pub trait Count {
-    // Nothing yet.
-    fn none() -> Self;
-
     fn answered(&mut self);
 
     fn refused(&mut self);
@@ -21,14 +18,6 @@ pub trait Count {
 }
 
 impl Count for Tally {
-    fn none() -> Tally {
-        Tally {
-            answers: 0,
-            refusals: 0,
-            puzzles: 0,
-        }
-    }
-
     fn answered(&mut self) {
         self.answers = self.answers.saturating_add(1);
     }
