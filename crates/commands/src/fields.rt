@@ -149,19 +149,11 @@ fn size(text: &str) -> Option<usize> {
     whole::<usize>(text).filter(|n| *n <= 1_000_000)
 }
 
-// The value of a hexadecimal digit.
-fn digit(b: u8) -> Option<u8> {
-    match b {
-        b'0'..=b'9' => Some(b - b'0'),
-        b'a'..=b'f' => Some(b - b'a' + 10),
-        b'A'..=b'F' => Some(b - b'A' + 10),
-        _ => None,
-    }
-}
-
 // The byte that two hexadecimal digits spell.
 fn byte(high: u8, low: u8) -> Option<u8> {
-    Some((digit(high)? & 15) << 4 | digit(low)? & 15)
+    let high = char::from(high).to_digit(16)?;
+    let low = char::from(low).to_digit(16)?;
+    u8::try_from(high << 4 | low).ok()
 }
 
 // The bytes that 96 hexadecimal digits spell.

@@ -132,7 +132,7 @@ impl ReadSymmetry for Fields<'_> {
     fn symmetry(&mut self, heap: Global, end: End) -> Result<Description, Trouble> {
         let ground = read_ground(self)?;
         let mut layers = Vec::new(heap);
-        // a line has no more fields
+        // no line has more fields than this
         for _ in 0..u64::MAX {
             let Some(word) = self.word() else {
                 break;
@@ -141,9 +141,9 @@ impl ReadSymmetry for Fields<'_> {
                 return Ok(Description { ground, layers });
             }
             let layer = read_layer(self, word)?;
-            if layers.push(layer).is_err() {
-                return Err(self.trouble(Fault::NoMemory));
-            }
+            layers
+                .push(layer)
+                .map_err(|_| self.trouble(Fault::NoMemory))?;
         }
         match end {
             End::Line => Ok(Description { ground, layers }),

@@ -4,9 +4,8 @@
 use commands::command::{Command, Question, ReadLine};
 use commands::trouble::{Fault, Trouble};
 use help::HELP;
-use replies::questions::Ask;
-use replies::reply::Unanswered;
-use replies::tally::{Count, Tally};
+use replies::printer::{Print, Printer};
+use replies::tally::Tally;
 use std::alloc::Global;
 use std::io;
 use std::io::Read;
@@ -39,43 +38,29 @@ fn read(heap: Global, line: &str) -> Result<Option<Question>, Trouble> {
     }
 }
 
-// Prints a question with its answer.
-fn answer(rt: &HostRuntime, line: &str, question: Question, tally: &mut Tally) -> io::Result<()> {
-    match question.reply(rt.alloc(), HELP) {
-        Ok(reply) => {
-            tally.answered();
-            println!(rt; "{line} {reply}")
-        }
-        Err(why) => {
-            tally.refused();
-            let unanswered = Unanswered(why);
-            println!(rt; "{line} {unanswered}")
-        }
-    }
-}
-
 // Reads a line and prints what it is answered.
-fn run(rt: &HostRuntime, number: u64, bytes: &[u8], tally: &mut Tally) -> io::Result<()> {
+fn run(printer: &mut Printer, number: u64, bytes: &[u8]) -> io::Result<()> {
     let Ok(line) = std::str::from_utf8(bytes) else {
-        tally.puzzled();
-        return println!(rt; "line {number}: not text in UTF-8");
+        return printer.no_text(number);
     };
-    match read(rt.alloc(), line) {
-        Ok(Some(question)) => answer(rt, line, question, tally),
+    match read(printer.rt.alloc(), line) {
+        Ok(Some(question)) => printer.question(line, question),
         Ok(None) => Ok(()),
-        Err(trouble) => {
-            tally.puzzled();
-            println!(rt; "line {number}: {trouble}")
-        }
+        Err(trouble) => printer.trouble(number, trouble),
     }
 }
 
 fn main(rt: HostRuntime) -> io::Result<()> {
     let mut input = Vec::new(rt.alloc());
     rt.stdin().read_to_end(&mut input)?;
-    let mut tally = Tally::default();
+    let mut printer = Printer {
+        rt: &rt,
+        tally: Tally::default(),
+        help: HELP,
+    };
     for (number, line) in (1..u64::MAX).zip(input.as_slice().split(|byte| *byte == b'\n')) {
-        run(&rt, number, line, &mut tally)?;
+        run(&mut printer, number, line)?;
     }
+    let tally = printer.tally;
     println!(rt; "{tally}")
 }

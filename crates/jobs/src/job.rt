@@ -95,18 +95,16 @@ impl<'a> Job<'a> {
 
     // Makes the calls of a record, and prints its lines.
     fn perform(&self, teller: &mut Teller, mut record: Record<'a>) -> io::Result<()> {
-        let heap = teller.rt.alloc();
-        let mut output = Vec::new(heap);
-        let mut heading = Heading::Description("");
-        if let Some(subject) = &self.symmetry {
-            heading = subject.heading();
-            if let Some(memory) = self.memory {
-                if let Ok(bytes) = record.perform(heap, &subject.pile, memory, &self.palette) {
-                    output = bytes;
-                }
-            }
+        let heap = teller.printer.rt.alloc();
+        // a sheet is opened with both
+        let (Some(subject), Some(memory)) = (&self.symmetry, self.memory) else {
+            return Ok(());
+        };
+        let heading = subject.heading();
+        match record.perform(heap, &subject.pile, memory, &self.palette) {
+            Ok(output) => tell(teller, &record, output.as_slice(), heading),
+            Err(_) => tell(teller, &record, &[], heading),
         }
-        tell(teller, &record, output.as_slice(), heading)
     }
 
     fn set_symmetry(
@@ -116,7 +114,7 @@ impl<'a> Job<'a> {
         description: Description,
     ) -> io::Result<()> {
         self.symmetry = None;
-        match description.make(teller.rt.alloc()) {
+        match description.make(teller.printer.rt.alloc()) {
             Ok(pile) => {
                 let group = description.group();
                 self.symmetry = Some(Subject { pile, group, line });
@@ -130,7 +128,7 @@ impl<'a> Job<'a> {
         if self.symmetry.is_none() || self.memory.is_none() {
             return teller.out_of_turn(line, OutOfTurn::NotReady);
         }
-        self.sheet = Some(Record::begin(teller.rt.alloc()));
+        self.sheet = Some(Record::begin(teller.printer.rt.alloc()));
         teller.accepted(line)
     }
 

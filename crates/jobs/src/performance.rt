@@ -17,13 +17,11 @@ fn play<C: Canvas>(
     output: &mut [u8],
 ) {
     let drawing = record.drawing.as_mut_slice();
-    match &mut record.viewing {
-        Some(viewing) => {
-            let viewing = viewing.as_mut_slice();
-            replay(symmetry, canvas, palette, drawing, Some(viewing), output);
-        }
-        None => replay(symmetry, canvas, palette, drawing, None, output),
-    }
+    let viewing = record
+        .viewing
+        .as_mut()
+        .map(|viewing| viewing.as_mut_slice());
+    replay(symmetry, canvas, palette, drawing, viewing, output);
 }
 
 impl Record<'_> {

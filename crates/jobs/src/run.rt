@@ -1,8 +1,10 @@
 // A whole run.
+use super::help::HELP;
 use super::job::Job;
 use super::line::Line;
 use super::teller::Teller;
 use commands::command::{Command, ReadLine};
+use replies::printer::Printer;
 use replies::tally::Tally;
 use std::alloc::Global;
 use std::io;
@@ -30,7 +32,7 @@ fn run_line<'a>(teller: &mut Teller, line: Line<'a>, job: &mut Job<'a>) -> io::R
     if line.bytes.starts_with(b"#") {
         return Ok(());
     }
-    match read(teller.rt.alloc(), line.bytes) {
+    match read(teller.printer.rt.alloc(), line.bytes) {
         Some(Command::Nothing) => Ok(()),
         Some(Command::Setting(setting)) => job.set(teller, line, setting),
         Some(Command::Call(call)) => job.call(teller, line, call),
@@ -51,11 +53,14 @@ impl Console for HostRuntime {
         let mut input = Vec::new(self.alloc());
         self.stdin().read_to_end(&mut input)?;
         let mut teller = Teller {
-            rt: self,
-            tally: Tally::default(),
+            printer: Printer {
+                rt: self,
+                tally: Tally::default(),
+                help: HELP,
+            },
         };
         run_lines(&mut teller, input.as_slice())?;
-        let tally = teller.tally;
+        let tally = teller.printer.tally;
         println!(self; "{tally}")
     }
 }

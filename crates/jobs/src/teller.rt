@@ -1,13 +1,11 @@
 // Printing lines with their answers.
-use super::help::HELP;
 use super::line::Line;
 use super::record::{OutOfTurn, Sight, Target};
-use commands::command::{Command, Question, ReadLine};
+use commands::command::{Command, ReadLine};
 use history::calls::Answer;
-use replies::questions::Ask;
+use replies::printer::{Print, Printer};
 use replies::refusal::{Numbered, Refusal};
-use replies::reply::Unanswered;
-use replies::tally::{Count, Tally};
+use replies::tally::Count;
 use sheet::refusal::StrokeStopped;
 use sheet::sheet::Quote;
 use std::{fmt, fs, io};
@@ -19,11 +17,10 @@ pub enum Heading<'a> {
     Description(&'a str),
 }
 
-// Prints to standard output, and counts what it prints.
+// Prints the lines of a sheet as well.
 #[derive(Drop)]
 pub struct Teller<'r> {
-    pub rt: &'r HostRuntime,
-    pub tally: Tally,
+    pub printer: Printer<'r>,
 }
 
 // Bytes as hexadecimal digits.
@@ -48,20 +45,20 @@ fn last_field(text: &str) -> &str {
 impl<'r> Teller<'r> {
     pub(crate) fn out_of_turn(&mut self, line: Line, why: OutOfTurn) -> io::Result<()> {
         let text = line.text();
-        self.tally.refused();
-        println!(self.rt; "{text} = out of turn: {why}")
+        self.printer.tally.refused();
+        println!(self.printer.rt; "{text} = out of turn: {why}")
     }
 
     pub(crate) fn no_memory(&mut self, line: Line) -> io::Result<()> {
         let text = line.text();
-        self.tally.refused();
-        println!(self.rt; "{text} = no memory")
+        self.printer.tally.refused();
+        println!(self.printer.rt; "{text} = no memory")
     }
 
     pub(crate) fn accepted(&mut self, line: Line) -> io::Result<()> {
         let text = line.text();
-        self.tally.answered();
-        println!(self.rt; "{text}")
+        self.printer.tally.answered();
+        println!(self.printer.rt; "{text}")
     }
 
     // A refusal by its number, and in words.
@@ -71,34 +68,34 @@ impl<'r> Teller<'r> {
         };
         let text = line.text();
         let place = line.number;
-        self.tally.refused();
-        println!(self.rt; "{text} = refused {number}")?;
-        println!(self.rt; "  line {place}: {why}")
+        self.printer.tally.refused();
+        println!(self.printer.rt; "{text} = refused {number}")?;
+        println!(self.printer.rt; "  line {place}: {why}")
     }
 
     fn stroked(&mut self, line: Line, answer: Result<u16, StrokeStopped>) -> io::Result<()> {
         let text = line.text();
         match answer {
             Ok(laid) => {
-                self.tally.answered();
-                println!(self.rt; "{text} = {laid} 0")
+                self.printer.tally.answered();
+                println!(self.printer.rt; "{text} = {laid} 0")
             }
             Err(stopped) => {
-                self.tally.refused();
+                self.printer.tally.refused();
                 let laid = stopped.laid;
                 let number = stopped.refusal.number();
                 let why = Refusal::Stroke(stopped.refusal);
                 let place = line.number;
-                println!(self.rt; "{text} = {laid} {number}")?;
-                println!(self.rt; "  line {place}: {why}")
+                println!(self.printer.rt; "{text} = {laid} {number}")?;
+                println!(self.printer.rt; "  line {place}: {why}")
             }
         }
     }
 
     fn shown(&mut self, line: Line, ink: u8) -> io::Result<()> {
         let text = line.text();
-        self.tally.answered();
-        println!(self.rt; "{text} = {ink}")
+        self.printer.tally.answered();
+        println!(self.printer.rt; "{text} = {ink}")
     }
 
     // A picture, as digits or in the file that is named last on its line.
@@ -106,27 +103,27 @@ impl<'r> Teller<'r> {
         let text = line.text();
         let size = picture.len();
         if target == Target::Line {
-            self.tally.answered();
+            self.printer.tally.answered();
             let hex = Hex(picture);
-            return println!(self.rt; "{text} = ok {size} {hex}");
+            return println!(self.printer.rt; "{text} = ok {size} {hex}");
         }
         let file = last_field(text);
-        if fs::write(self.rt, file, picture).is_err() {
-            self.tally.refused();
-            return println!(self.rt; "{text} = not written {file}");
+        if fs::write(self.printer.rt, file, picture).is_err() {
+            self.printer.tally.refused();
+            return println!(self.printer.rt; "{text} = not written {file}");
         }
-        self.tally.answered();
-        println!(self.rt; "{text} = ok {size} {file}")
+        self.printer.tally.answered();
+        println!(self.printer.rt; "{text} = ok {size} {file}")
     }
 
     fn head(&self, heading: Heading) -> io::Result<()> {
         match heading {
             Heading::Group { symbol, p, q } => {
-                println!(self.rt; "  symbol      {symbol}")?;
-                println!(self.rt; "  periods     {p} by {q}")
+                println!(self.printer.rt; "  symbol      {symbol}")?;
+                println!(self.printer.rt; "  periods     {p} by {q}")
             }
             Heading::Description(description) => {
-                println!(self.rt; "  symmetry    {description}")
+                println!(self.printer.rt; "  symmetry    {description}")
             }
         }
     }
@@ -135,11 +132,11 @@ impl<'r> Teller<'r> {
         let text = line.text();
         let held = quote.held;
         let strokes = quote.strokes;
-        self.tally.answered();
-        println!(self.rt; "{text} = {held} {strokes}")?;
+        self.printer.tally.answered();
+        println!(self.printer.rt; "{text} = {held} {strokes}")?;
         self.head(heading)?;
-        println!(self.rt; "  cells       {held}")?;
-        println!(self.rt; "  strokes     {strokes}")
+        println!(self.printer.rt; "  cells       {held}")?;
+        println!(self.printer.rt; "  strokes     {strokes}")
     }
 
     // The answer of a call, with the bytes that it was given.
@@ -163,34 +160,15 @@ impl<'r> Teller<'r> {
         }
     }
 
-    fn asked(&mut self, text: &str, question: Question) -> io::Result<()> {
-        match question.reply(self.rt.alloc(), HELP) {
-            Ok(reply) => {
-                self.tally.answered();
-                println!(self.rt; "{text} {reply}")
-            }
-            Err(why) => {
-                self.tally.refused();
-                let unanswered = Unanswered(why);
-                println!(self.rt; "{text} {unanswered}")
-            }
-        }
-    }
-
     // A line that is neither a call on a sheet nor says what it is drawn with: a question with its answer, or what is wrong with the line.
     pub(crate) fn other(&mut self, line: Line) -> io::Result<()> {
-        let number = line.number;
         let Ok(text) = std::str::from_utf8(line.bytes) else {
-            self.tally.puzzled();
-            return println!(self.rt; "line {number}: not text in UTF-8");
+            return self.printer.no_text(line.number);
         };
-        match Command::read_line(self.rt.alloc(), text) {
-            Ok(Command::Question(question)) => self.asked(text, question),
+        match Command::read_line(self.printer.rt.alloc(), text) {
+            Ok(Command::Question(question)) => self.printer.question(text, question),
             Ok(_) => Ok(()),
-            Err(trouble) => {
-                self.tally.puzzled();
-                println!(self.rt; "line {number}: {trouble}")
-            }
+            Err(trouble) => self.printer.trouble(line.number, trouble),
         }
     }
 }

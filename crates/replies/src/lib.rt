@@ -1,6 +1,7 @@
 // What questions are answered, refusals in words, and what a run did.
 #![tactic(auto)]
 
+pub mod printer;
 pub mod questions;
 pub mod refusal;
 pub mod reply;
