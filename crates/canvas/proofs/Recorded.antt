@@ -2,8 +2,6 @@
 use Rattle.std.proofs.Common.{◌≡◌, ℕ, suc, ◌<◌, ◌≤◌, Bool, true, false, cond, ◌&&◌, ltb, leb, ◌⊎◌, List, [], ◌∷◌, length, Some, None, Option, sym, refl, ap, ◌∙◌, subst, inl, inr, arith}
 use Rattle.std.proofs.lemmas.Bool.{and_parts, and_from, ltb-true, leb-true, lt-ltb, le-leb, cases_Bool, both_ways}
 use Rattle.std.specs.List.{AllByRecursion as All}
-use Rattle.std.proofs.lemmas.Int.{ints}
-use Rattle.std.specs.Ordering.{is_lt, int_cmp, ordering_then}
 use Rattle.plane.specs.declared.cell.Cell.{Cell}
 use Rattle.plane.specs.Cells.{earlier}
 use Rattle.plane.proofs.Order.{earlier_trans, earlier_flip, earlier-same}
@@ -12,10 +10,6 @@ use Rattle.shelf.proofs.Lookups.{found_past, found_head, found_is}
 use Rattle.canvas.specs.Board.{BoardLaws}
 use Rattle.canvas.specs.Distinct.{Member, Distinct}
 use Rattle.canvas.specs.Records.{keys, sound, all_sound, ink_of, record-board}
-
--- a cell is earlier than another if it is less
-pub earlier_is : (p q : Cell) → earlier p q ≡ is_lt (ordering_then (int_cmp p.y q.y) (int_cmp p.x q.x))
-earlier_is p q = grind (arith, ints)
 
 module _ {R : Type 0} (cell : R → Cell) (ink : R → ℕ) (frame : Cell → Bool) where
   -- the order of cells is total

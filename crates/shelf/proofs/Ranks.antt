@@ -1,15 +1,8 @@
--- Where a search ends, by how the keys of the records compare with a key.
-use Rattle.std.proofs.Common.{◌≡◌, ℕ, zero, suc, ◌+◌, ◌<◌, ◌≤◌, true, false, ◌⊎◌, List, [], ◌∷◌, length, get_or, is_some, Some, Ok, Err, Option, Result, refl, sym, ap, ◌∙◌, inl, inr, zero-le, arith}
+-- The rank of a key is where the records whose keys are before it end.
+use Rattle.std.proofs.Common.{◌≡◌, ℕ, zero, suc, ◌<◌, ◌≤◌, true, false, ◌⊎◌, List, [], ◌∷◌, length, get_or, sym, ap, ◌∙◌, inl, inr, zero-le, arith}
 use Rattle.std.proofs.lemmas.Bool.{cond-true, cond-false, cases_Bool, cases_eq, and_parts, both_ways}
-use Rattle.std.proofs.lemmas.List.Sorted.{searchable_from_sorted}
-use Rattle.std.specs.Cmp.{IsTotalOrder}
-use Rattle.std.specs.List.{HoldsAt}
-use Rattle.std.specs.List.Sorted.{IsPartitionedBy, IsPartitionPoint, IsBinarySearchResult}
-use Rattle.std.specs.Ordering.{is_lt, is_some_and, ordering_reverse}
-use Rattle.std.specs.Result.{MatchResult}
-use Rattle.std.specs.declared.cmp.Ordering.{Ordering}
-use Rattle.std.specs.declared.cmp.Ordering.TheVariants.{Equal, Greater}
-use Rattle.shelf.specs.Keys.{Keys, TotalOrder, leads, sorted, Sorted, rank, found, located}
+use Rattle.std.specs.List.Sorted.{IsPartitionedBy, IsPartitionPoint}
+use Rattle.shelf.specs.Keys.{Keys, TotalOrder, leads, sorted, Sorted, rank}
 
 module _ {R K : Type 0} (keys : Keys R K) where
   -- a key that is before all is before each
@@ -60,48 +53,3 @@ module _ {R K : Type 0} (keys : Keys R K) where
         go : (i ≡ j) ⊎ (i ≡ j → ⊥) → keys.before (keys.key (get_or xs i d)) k ≡ true
         go (inl e) = ap (λ n. keys.before (keys.key (get_or xs n d)) k) e ∙ t
         go (inr e) = o.transitive _ _ _ (sorted_before xs i j d s (omega arith) m) t
-
-    -- the record with the key k is the one that is found, at the rank of k
-    known_at : (k : K) (xs : List R) (i : ℕ) → Sorted keys xs → i < length xs → HoldsAt (λ x. (keys.before (keys.key x) k ≡ false) × (keys.before k (keys.key x) ≡ false)) xs i → (is_some (found keys k xs) ≡ true) × (i ≡ rank keys k xs)
-    known_at k [] i s l h = absurd (omega arith)
-    known_at k (x ∷ xs) zero s l h = let t = h x in (ap is_some (cond-false _ _ _ t.0 ∙ cond-false _ _ _ t.1), sym (rank_none k x xs t.0))
-    known_at k (x ∷ xs) (suc i) s l h =
-        let t = h x in
-        let p = and_parts (leads keys (keys.key x) xs) (sorted keys xs) s in
-        let e : keys.key (get_or xs i x) ≡ k = o.total _ _ t.0 t.1 in
-        let b : keys.before (keys.key x) k ≡ true = ap (keys.before (keys.key x)) (sym e) ∙ leads_at (keys.key x) xs i x p.0 (omega arith) in
-        let more = known_at k xs i p.1 (omega arith) (λ d. h d) in
-        (ap is_some (cond-true _ _ _ b) ∙ more.0, ap suc more.1 ∙ sym (rank_more k x xs b))
-
-    -- between the records with keys before k and those with keys after k there is none with the key k
-    unknown_at : (k : K) (xs : List R) (i : ℕ) → i ≤ length xs → IsPartitionPoint (λ x. keys.before (keys.key x) k ≡ true) (λ x. keys.before k (keys.key x) ≡ true) xs i → (is_some (found keys k xs) ≡ false) × (i ≡ rank keys k xs)
-    unknown_at k [] i l p = (refl, omega arith)
-    unknown_at k (x ∷ xs) zero l p =
-        let t : keys.before k (keys.key x) ≡ true = p.1 0 x zero-le (omega arith) in
-        let b = after_not _ _ t in
-        (ap is_some (cond-false _ _ _ b ∙ cond-true _ _ _ t), sym (rank_none k x xs b))
-    unknown_at k (x ∷ xs) (suc i) l p =
-        let b : keys.before (keys.key x) k ≡ true = p.0 0 x zero-le (omega arith) in
-        let more = unknown_at k xs i (omega arith) ((λ n d a b. p.0 (suc n) d zero-le (omega arith)), (λ n d a b. p.1 (suc n) d (omega arith) (omega arith))) in
-        (ap is_some (cond-true _ _ _ b) ∙ more.0, ap suc more.1 ∙ sym (rank_more k x xs b))
-
-    module _ (cmp : K → K → Ordering) (order : IsTotalOrder cmp) (ordered : (j k : K) → keys.before j k ≡ is_lt (cmp j k)) where
-      turned : (j k : K) (r : Ordering) → cmp j k ≡ r → keys.before k j ≡ is_lt (ordering_reverse r)
-      turned j k r e = ordered k j ∙ ap is_lt (order.antisymm k j ∙ ap ordering_reverse e)
-
-      rising : (xs : List R) → Sorted keys xs → (i : ℕ) (d : R) → 0 ≤ i → i + 1 < length xs → is_lt (cmp (keys.key (get_or xs (i + 1) d)) (keys.key (get_or xs i d))) ≡ false
-      rising xs s i d z l = sym (ordered _ _) ∙ after_not _ _ (sorted_before xs i (i + 1) d s (omega arith) l)
-
-      -- what a binary search for the key k answers
-      pub searched : (k : K) (xs : List R) (answer : Result ℕ ℕ) → MatchResult answer (λ i. i < length xs) (λ i. i ≤ length xs) → IsBinarySearchResult (λ x. cmp (keys.key x) k) xs answer → Sorted keys xs → answer ≡ located keys k xs
-      searched k xs (Ok i) w h s =
-          let a = known_at k xs i s w (λ d. (ordered _ _ ∙ ap is_lt (h d), turned _ _ Equal (h d))) in
-          ap Ok a.1 ∙ sym (cond-true _ _ _ a.0)
-      searched k xs (Err i) w h s =
-          let p = h (searchable_from_sorted order keys.key xs k (rising xs s)) in
-          let a = unknown_at k xs i w ((λ n d a b. ordered _ _ ∙ ap is_lt (p.0 n d a b)), (λ n d a b. turned _ _ Greater (p.1 n d a b))) in
-          ap Err a.1 ∙ sym (cond-false _ _ _ a.0)
-
-      -- the test `<` of two keys
-      pub less_is : (partial : K → K → Option Ordering) → ((j k : K) → partial j k ≡ Some (cmp j k)) → (j k : K) → is_some_and is_lt (partial j k) ≡ keys.before j k
-      less_is partial agrees j k = ap (is_some_and is_lt) (agrees j k) ∙ sym (ordered j k)

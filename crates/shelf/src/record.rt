@@ -1,11 +1,10 @@
 // What a shelf keeps.
 ghost use Rattle.std.specs.Prelude.{◌≡◌};
-ghost use Rattle.std.specs.Ordering.{is_lt};
 ghost use Rattle.shelf.specs.Keys.{Keys, TotalOrder};
 
 // A record with a key.
 pub trait Record: Copy {
-    type Key: Ord + Copy;
+    type Key: Copy;
 
     // The key of a record, and which of two keys is before the other.
     ghost keys: { Keys Self Self.Key };
@@ -14,8 +13,9 @@ pub trait Record: Copy {
     fn key(&self) -> Self::Key
         ensures { result ≡ keys.key self.now };
 
-    // A key is before another if it is less.
-    ghost ordered: { (j k : Self.Key) → keys.before j k ≡ is_lt (Self.Key.cmp j k) };
+    // Whether the first of two keys is before the second.
+    fn precedes(first: Self::Key, second: Self::Key) -> bool
+        ensures { result ≡ keys.before first second };
 
     // The keys are in a total order.
     ghost total: { TotalOrder keys };

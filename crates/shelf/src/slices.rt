@@ -11,7 +11,7 @@ pub fn place<R: Record>(records: &[R], key: R::Key) -> usize
     ensures most { result ≤ length records.now }
     ensures is { Sorted R.Record.keys records.now → result ≡ rank R.Record.keys key records.now }
 {
-    records.partition_point(|record| record.key() < key)
+    records.partition_point(|record| R::precedes(record.key(), key))
 }
 
 // The place of the record with the key, or else the place that it would have.
@@ -19,7 +19,12 @@ pub fn search<R: Record>(records: &[R], key: R::Key) -> Result<usize, usize>
     ensures within { MatchResult result (λ i. i < length records.now) (λ i. i ≤ length records.now) }
     ensures is { Sorted R.Record.keys records.now → result ≡ located R.Record.keys key records.now }
 {
-    records.binary_search_by_key(&key, |record| record.key())
+    let at = place(records, key);
+    if at == records.len() || R::precedes(key, records[at].key()) {
+        Err(at)
+    } else {
+        Ok(at)
+    }
 }
 
 // The record of a key, if there is one.

@@ -1,7 +1,7 @@
 // The key of a record is its name, in the order of its bytes.
 ghost use Rattle.std.specs.Prelude.{◌≡◌};
 ghost use Rattle.dyes.specs.Records.{blank_record, dye_keys};
-ghost use Rattle.dyes.specs.Ordering.{name_before, names_ordered};
+ghost use Rattle.dyes.specs.Ordering.{names_ordered};
 
 use super::super::name::DyeName;
 use super::DyeRecord;
@@ -12,12 +12,14 @@ impl Record for DyeRecord {
 
     ghost keys = { dye_keys };
 
-    ghost ordered = { name_before };
-
     ghost total = { names_ordered };
 
     fn key(&self) -> DyeName {
         self.name
+    }
+
+    fn precedes(first: DyeName, second: DyeName) -> bool {
+        first.precedes(second)
     }
 }
 

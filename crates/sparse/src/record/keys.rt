@@ -1,7 +1,7 @@
 // The key of a record is its cell, by row, and within a row by column.
 ghost use Rattle.std.specs.Prelude.{◌≡◌};
 ghost use Rattle.sparse.specs.Records.{cell_keys, record_if, cell_of, ink_of, framed};
-ghost use Rattle.canvas.proofs.Recorded.{cells_ordered, earlier_is};
+ghost use Rattle.canvas.proofs.Recorded.{cells_ordered};
 
 use super::CellRecord;
 use plane::cell::Cell;
@@ -12,8 +12,6 @@ impl Record for CellRecord {
 
     ghost keys = { cell_keys };
 
-    ghost ordered = { earlier_is };
-
     ghost total = { cells_ordered cell_of ink_of framed };
 
     fn key(&self) -> Cell {
@@ -21,6 +19,10 @@ impl Record for CellRecord {
             x: i64::from(self.x),
             y: i64::from(self.y),
         }
+    }
+
+    fn precedes(first: Cell, second: Cell) -> bool {
+        first.precedes(second)
     }
 }
 

@@ -1,9 +1,23 @@
-use Rattle.std.proofs.Common.{rules}
-use Rattle.std.proofs.lemmas.List.Sorted.{answers_always}
-use Rattle.shelf.proofs.Ranks.{searched}
+use Rattle.std.proofs.Common.{◌<◌, length, ◌∙◌, arith}
+use Rattle.std.proofs.lemmas.Bool.{both_ways, eq-eqb}
+use Rattle.shelf.proofs.Finds.{located_past, located_gap, located_here}
 use Rattle.shelf.proofs.slices.search.Goals as goal
+use Rattle.shelf.proofs.slices.search.Goals.{then-at-records, else-at-records}
 
-pub returns-clause-is : goal.returns-clause-is
-returns-clause-is g c =
-    let by_key = c.binary_search_by_key.ensures.position g.R.Record.keys.key (answers_always _ _ _ (λ f a r f' k. search rules)) in
-    searched g.R.Record.keys g.met.R.Record.total g.R.Key.Ord.cmp g.met.R.Key.Ord.total g.met.R.Record.ordered c.args.key c.args.records.now c.binary_search_by_key.result c.binary_search_by_key.ensures.bound by_key
+pub returns-then-precedes-clause-is : goal.returns-then-precedes-clause-is
+returns-then-precedes-clause-is g c = λ s.
+    elim c.if-at-records.branch [
+      | then-at-records w ↦ located_past g.R.Record.keys c.args.key c.args.records.now c.place-at.result (c.place-at.ensures.is s) w.if-at-records.true
+      | else-at-records w ↦
+          let inside : c.place-at.result < length c.args.records.now = omega (arith, c.place-at.ensures.most, w.if-at-records.false) in
+          located_gap g.R.Record.keys c.args.key c.args.records.now c.place-at.result w.index-records-at.result w.key.result c.if-at-records.value (c.place-at.ensures.is s) inside w.index-records-at.is w.key.ensures (w.value-is ∙ w.precedes.ensures) c.if-precedes.true
+    ]
+
+pub returns-else-precedes-clause-is : goal.returns-else-precedes-clause-is
+returns-else-precedes-clause-is g c = λ s.
+    elim c.if-at-records.branch [
+      | then-at-records w ↦ absurd (both_ways _ c.if-precedes.false (w.value-is ∙ eq-eqb _ _ w.if-at-records.true))
+      | else-at-records w ↦
+          let inside : c.place-at.result < length c.args.records.now = omega (arith, c.place-at.ensures.most, w.if-at-records.false) in
+          located_here g.R.Record.keys c.args.key c.args.records.now c.place-at.result w.index-records-at.result w.key.result c.if-at-records.value (c.place-at.ensures.is s) inside w.index-records-at.is w.key.ensures (w.value-is ∙ w.precedes.ensures) c.if-precedes.false
+    ]
