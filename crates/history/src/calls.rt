@@ -1,5 +1,6 @@
 // The calls of a history and their answers, as data. What a sheet does not allow cannot be written.
 ghost use Rattle.std.specs.Prelude.{◌≡◌, None};
+ghost use Rattle.history.specs.Passed.{passed};
 
 use plane::cell::Cell;
 use plane::fold::FoldRefused;
@@ -67,4 +68,11 @@ impl<C> Answered<C> {
     {
         Answered { call, answer: None }
     }
+}
+
+// The calls on the closed sheet of a history that does not close: there are none.
+pub fn left_open<'a>() -> Option<&'a mut [Viewed]>
+    ensures { passed result ≡ None }
+{
+    Option::None
 }

@@ -2,7 +2,7 @@
 use super::lent::PALETTE;
 use dense::dense::DenseCanvas;
 use groups::tabled::Tabled;
-use history::calls::{Answer, Drawing, Drawn, Look, Viewed, Viewing, Window};
+use history::calls::{Answer, Drawing, Drawn, Look, Viewed, Viewing, Window, left_open};
 use history::replay::replay;
 use layers::layer::Layer;
 use pile::base::Base;
@@ -81,7 +81,7 @@ fn open_at_the_end(rt: HostRuntime) -> Result<(), Fail> {
         &mut canvas,
         PALETTE,
         &mut drawing,
-        None,
+        left_open(),
         &mut output,
     );
     for (answer, expected) in [
