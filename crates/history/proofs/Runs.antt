@@ -85,22 +85,22 @@ module _ (m : Meaning) (frame : Cell → Bool) (seats : ℕ) (palette before : L
         } in
         subst (λ k. Along (es ++ (entry k ∷ [])) (draw_strokes m k b call) (draw_board m k b call) (past (length before) at (drawing_room call)) (placed out at (draw_output m b palette call (part at (drawing_room call) out)))) a.count made
 
-    -- the call at place i of the list is answered, with its part of the output as the code cuts it
-    pub along_put : (xs : List (Answered Drawing)) (i : ℕ) (call : Drawing) (answer : Answer) (strokes strokes' : ℕ) (b b' : Board) (at end room : ℕ) (out last : List ℕ) → i < length xs → Along (take i xs) strokes b at out → room ≡ drawing_room call → end ≡ past (length out) at room → let bytes = take (end - at) (drop at out) in answer ≡ draw_answer m strokes b palette call bytes → strokes' ≡ draw_strokes m strokes b call → b' ≡ draw_board m strokes b call → last ≡ draw_output m b palette call bytes → Along (take (i + 1) (set xs i (record { call = call; answer = Some answer }))) strokes' b' end (put_mid at (end - at) out last)
-    along_put xs i call answer strokes strokes' b b' at end room out last h a er ee ea es eb eo =
+    -- the call at place i of the list is answered, with its part of the output as the code cuts it, and the next part begins where that one ends
+    pub along_put : (xs : List (Answered Drawing)) (i : ℕ) (call : Drawing) (answer : Answer) (strokes strokes' : ℕ) (b b' : Board) (at end next room : ℕ) (out last : List ℕ) → i < length xs → Along (take i xs) strokes b at out → room ≡ drawing_room call → end ≡ past (length out) at room → next ≡ end → let bytes = take (end - at) (drop at out) in answer ≡ draw_answer m strokes b palette call bytes → strokes' ≡ draw_strokes m strokes b call → b' ≡ draw_board m strokes b call → last ≡ draw_output m b palette call bytes → Along (take (i + 1) (set xs i (record { call = call; answer = Some answer }))) strokes' b' next (put_mid at (end - at) out last)
+    along_put xs i call answer strokes strokes' b b' at end next room out last h a er ee en ea es eb eo =
         let n : ℕ = drawing_room call in
         let new : List ℕ = draw_output m b palette call (part at n out) in
         let near : at ≤ length out = subst (λ k. at ≤ k) (sym a.reached.long) a.reached.near in
         let on : end ≡ past (length out) at n = ee ∙ ap (past (length out) at) er in
         let cut : take (end - at) (drop at out) ≡ part at n out = cut_part out at n end near on in
-        let et : end ≡ past (length before) at n = on ∙ ap (λ k. past k at n) a.reached.long in
+        let et : next ≡ past (length before) at n = en ∙ on ∙ ap (λ k. past k at n) a.reached.long in
         let el : put_mid at (end - at) out last ≡ placed out at new = put_part out at n end near on new last (eo ∙ ap (draw_output m b palette call) cut) (draw_long m b palette call (part at n out)) in
         let entry : Answered Drawing = record { call = call; answer = Some answer } in
         let made = along_more (take i xs) strokes b at out call a in
         let p1 : Along (take i xs ++ (entry ∷ [])) (draw_strokes m strokes b call) (draw_board m strokes b call) (past (length before) at n) (placed out at new) = subst (λ x. Along (take i xs ++ (record { call = call; answer = Some x } ∷ [])) (draw_strokes m strokes b call) (draw_board m strokes b call) (past (length before) at n) (placed out at new)) (sym (ea ∙ ap (draw_answer m strokes b palette call) cut)) made in
         let p2 : Along (take i xs ++ (entry ∷ [])) strokes' b' (past (length before) at n) (placed out at new) = subst₂ (λ (k : ℕ) (c : Board). Along (take i xs ++ (entry ∷ [])) k c (past (length before) at n) (placed out at new)) (sym es) (sym eb) p1 in
-        let p3 : Along (take i xs ++ (entry ∷ [])) strokes' b' end (put_mid at (end - at) out last) = subst₂ (λ (k : ℕ) (o : List ℕ). Along (take i xs ++ (entry ∷ [])) strokes' b' k o) (sym et) (sym el) p2 in
-        subst (λ es. Along es strokes' b' end (put_mid at (end - at) out last)) (sym (take_more_set xs i entry h)) p3
+        let p3 : Along (take i xs ++ (entry ∷ [])) strokes' b' next (put_mid at (end - at) out last) = subst₂ (λ (k : ℕ) (o : List ℕ). Along (take i xs ++ (entry ∷ [])) strokes' b' k o) (sym et) (sym el) p2 in
+        subst (λ es. Along es strokes' b' next (put_mid at (end - at) out last)) (sym (take_more_set xs i entry h)) p3
 
     beyond_more : (es : List (Answered Drawing)) (vs : List (Answered Viewing)) (held strokes : ℕ) (b : Board) (at : ℕ) (out : List ℕ) (call : Viewing) → Beyond es vs held strokes b at out → Beyond es (vs ++ (record { call = call; answer = Some (view_answer m held strokes b palette call (part at (viewing_room call) out)) } ∷ [])) held strokes b (past (length before) at (viewing_room call)) (placed out at (view_output m b palette call (part at (viewing_room call) out)))
     beyond_more es vs held strokes b at out call a =

@@ -39,7 +39,7 @@ loop-drawn-preserved g c =
     let h : c.loop-drawn.drawn-index < length c.loop-drawn.drawing = omega arith in
     let t = c.draw.ensures in
     record {
-      along = along_put m b.frame b.seats c.args.palette.now c.args.output.now (classes m (g.met.S.Symmetry.lawful c.args.symmetry.now)) c.loop-drawn.drawing c.loop-drawn.drawn-index _ c.draw.result c.loop-drawn.sheet.strokes c.draw.new.sheet.strokes (g.C.Canvas.board c.loop-drawn.canvas) (g.C.Canvas.board c.draw.new.canvas) c.loop-drawn.at c.past-end.result c.room.result c.loop-drawn.output c.draw.new.part h c.loop-drawn.invariant.along c.room.ensures c.past-end.ensures t.answer t.sheet t.after t.output;
+      along = along_put m b.frame b.seats c.args.palette.now c.args.output.now (classes m (g.met.S.Symmetry.lawful c.args.symmetry.now)) c.loop-drawn.drawing c.loop-drawn.drawn-index _ c.draw.result c.loop-drawn.sheet.strokes c.draw.new.sheet.strokes (g.C.Canvas.board c.loop-drawn.canvas) (g.C.Canvas.board c.draw.new.canvas) c.loop-drawn.at c.past-end.result _ c.room.result c.loop-drawn.output c.draw.new.part h c.loop-drawn.invariant.along c.room.ensures c.past-end.ensures (omega arith) t.answer t.sheet t.after t.output;
       calls = map-set_same (λ (e : Answered Drawing). e.call) c.loop-drawn.drawing c.loop-drawn.drawn-index _ _ refl ∙ c.loop-drawn.invariant.calls;
     }
 
