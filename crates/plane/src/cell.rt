@@ -3,12 +3,23 @@ ghost use Rattle.std.specs.Prelude.{◌≡◌};
 ghost use Rattle.plane.specs.Cells.{inside, earlier};
 
 use ints::ranges::is_at_most;
+use std::fmt;
 
 // A cell: `x` is its column, `y` its row. Cells are in the order of their rows, and within a row in that of their columns.
-#[derive(Clone, Copy, PartialEq, Eq, PartialOrd, Ord, Debug)]
+#[derive(Clone, Copy, PartialEq, Eq, PartialOrd, Ord)]
 pub struct Cell {
     pub y: i64,
     pub x: i64,
+}
+
+// Its column is written before its row.
+impl fmt::Debug for Cell {
+    fn fmt<W: fmt::Write>(&self, f: &mut fmt::Formatter<W>) -> fmt::Result {
+        f.debug_struct("Cell")
+            .field("x", &self.x)
+            .field("y", &self.y)
+            .finish()
+    }
 }
 
 impl Cell {
