@@ -5,7 +5,7 @@ ghost use Rattle.plane.specs.Rectangles.{window_cells};
 ghost use Rattle.groups.specs.Lists.{some};
 ghost use Rattle.census.specs.Windows.{Met, Refuses, met, noted};
 
-use super::fault::WindowFault;
+pub use super::fault::WindowFault;
 use plane::cell::Cell;
 use plane::rectangle::Rectangle;
 use plane::symmetry::Symmetry;
@@ -16,7 +16,12 @@ use std::alloc::{AllocError, Global};
 fn is_listed(homes: &[Cell], home: Cell) -> bool
     ensures { result ≡ some (same home) homes.now }
 {
-    homes.contains(&home)
+    for other in homes {
+        if home.x == other.x && home.y == other.y {
+            return true;
+        }
+    }
+    false
 }
 
 // Adds the home of a cell to the list, unless it is there.

@@ -2,6 +2,7 @@
 use super::fields::{Fields, Read, Target};
 use super::trouble::Trouble;
 use history::calls::{Drawing, Look, Window};
+use plane::cell::Cell;
 use plane::rectangle::Rectangle;
 
 #[derive(Clone, Copy)]
@@ -25,9 +26,14 @@ pub trait ReadCall {
     fn window(&mut self) -> Result<Call, Trouble>;
 }
 
-// The most bytes that a picture of a rectangle takes: 15 before the cells, and three for each.
+// The most bytes that a picture of a rectangle takes, wherever it lies: 15 before the cells, and three for each.
 fn picture_size(rectangle: Rectangle) -> usize {
-    match rectangle.within(u32::MAX) {
+    let corner = Cell { x: 0, y: 0 };
+    let sides = Rectangle {
+        corner,
+        ..rectangle
+    };
+    match sides.within(u32::MAX) {
         Ok(window) => 15 + 3 * usize::from(window.width) * usize::from(window.height),
         Err(_) => 0,
     }

@@ -85,15 +85,10 @@ pub trait Read {
     fn missing(&self, wanted: Wanted) -> Trouble;
 }
 
-fn question_word(text: &str) -> Word {
+fn memory_word(text: &str) -> Word {
     match text {
-        "make" => Word::Make,
-        "fold" => Word::Fold,
-        "reduce" => Word::Reduce,
-        "classes" => Word::Classes,
-        "card" => Word::Card,
-        "cells" => Word::Cells,
-        "help" => Word::Help,
+        "sparse" => Word::Sparse,
+        "bytes" => Word::Bytes,
         _ => Word::Other,
     }
 }
@@ -110,7 +105,20 @@ fn call_word(text: &str) -> Word {
         "window" => Word::Window,
         "close" => Word::Close,
         "quote" => Word::Quote,
-        text => question_word(text),
+        text => memory_word(text),
+    }
+}
+
+fn question_word(text: &str) -> Word {
+    match text {
+        "make" => Word::Make,
+        "fold" => Word::Fold,
+        "reduce" => Word::Reduce,
+        "classes" => Word::Classes,
+        "card" => Word::Card,
+        "cells" => Word::Cells,
+        "help" => Word::Help,
+        text => call_word(text),
     }
 }
 
@@ -122,9 +130,7 @@ fn word_of(text: &str) -> Word {
         "R" => Word::Recast,
         "C" => Word::Counterchange,
         ":" => Word::Colon,
-        "sparse" => Word::Sparse,
-        "bytes" => Word::Bytes,
-        text => call_word(text),
+        text => question_word(text),
     }
 }
 
@@ -200,7 +206,7 @@ impl<'a> Fields<'a> {
     }
 
     fn text(&mut self, wanted: Wanted) -> Result<&'a str, Trouble> {
-        self.next().ok_or(self.missing(wanted))
+        self.next().ok_or_else(|| self.missing(wanted))
     }
 
     // The next field, read as what it has to be.
@@ -212,7 +218,7 @@ impl<'a> Fields<'a> {
         requires { F.IsAlwaysCallable parse }
     {
         let text = self.text(wanted)?;
-        parse(text).ok_or(self.trouble(Fault::Other(wanted)))
+        parse(text).ok_or_else(|| self.trouble(Fault::Other(wanted)))
     }
 }
 
