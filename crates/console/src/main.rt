@@ -6,6 +6,7 @@ use commands::trouble::{Fault, Trouble};
 use help::HELP;
 use replies::printer::{Print, Printer};
 use replies::tally::Tally;
+use std::alloc::Global;
 use std::io;
 use std::io::Read;
 
@@ -14,18 +15,31 @@ mod help;
 // What the console is asked by.
 const COMMANDS: [&str; 6] = ["make", "fold", "reduce", "classes", "card", "help"];
 
-// What is wrong with a line that begins with none of these, whatever follows.
-const UNKNOWN: Trouble = Trouble {
-    field: 1,
-    what: Fault::UnknownCommand,
-};
-
 // Whether a line begins with a command that the console knows.
 fn is_known(line: &str) -> bool {
-    COMMANDS.iter().any(|name| match line.strip_prefix(*name) {
-        Some(rest) => rest.is_empty() || rest.starts_with(' '),
-        None => false,
-    })
+    COMMANDS
+        .iter()
+        .any(|name| match line.strip_prefix(*name) {
+            Some(rest) => rest.is_empty() || rest.starts_with(' '),
+            None => false,
+        })
+}
+
+// The question that a line asks, if it is neither empty nor a remark.
+fn read(heap: Global, line: &str) -> Result<Option<Question>, Trouble> {
+    if line.is_empty() || line.starts_with('#') {
+        return Ok(None);
+    }
+    if !is_known(line) {
+        return Err(Trouble {
+            field: 1,
+            what: Fault::UnknownCommand,
+        });
+    }
+    match Command::read_line(heap, line)? {
+        Command::Question(question) => Ok(Some(question)),
+        _ => Ok(None),
+    }
 }
 
 // Reads a line and prints what it is answered.
@@ -33,12 +47,10 @@ fn run(printer: &mut Printer, number: u64, bytes: &[u8]) -> io::Result<()> {
     let Ok(line) = std::str::from_utf8(bytes) else {
         return printer.no_text(number);
     };
-    match Command::read_line(printer.rt.alloc(), line) {
-        Ok(Command::Nothing) => Ok(()),
-        Ok(Command::Question(Question::Cells { .. })) => printer.trouble(number, UNKNOWN),
-        Ok(Command::Question(question)) => printer.question(line, question),
-        Err(trouble) if is_known(line) => printer.trouble(number, trouble),
-        _ => printer.trouble(number, UNKNOWN),
+    match read(printer.rt.alloc(), line) {
+        Ok(Some(question)) => printer.question(line, question),
+        Ok(None) => Ok(()),
+        Err(trouble) => printer.trouble(number, trouble),
     }
 }
 

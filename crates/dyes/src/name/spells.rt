@@ -19,7 +19,7 @@ impl DyeName {
         ensures is { result ≡ lexical self.letters other.letters }
         ensures texts { TextsOrdered }
     {
-        self < other
+        self.cmp(&other).is_lt()
     }
 }
 
