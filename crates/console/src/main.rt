@@ -17,12 +17,10 @@ const COMMANDS: [&str; 6] = ["make", "fold", "reduce", "classes", "card", "help"
 
 // Whether a line begins with a command that the console knows.
 fn is_known(line: &str) -> bool {
-    COMMANDS
-        .iter()
-        .any(|name| match line.strip_prefix(*name) {
-            Some(rest) => rest.is_empty() || rest.starts_with(' '),
-            None => false,
-        })
+    COMMANDS.iter().any(|name| match line.strip_prefix(*name) {
+        Some(rest) => rest.is_empty() || rest.starts_with(' '),
+        None => false,
+    })
 }
 
 // The question that a line asks, if it is neither empty nor a remark.
