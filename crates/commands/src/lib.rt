@@ -6,4 +6,6 @@ pub mod command;
 mod fields;
 pub mod memory;
 pub mod symmetry;
+#[cfg(test)]
+mod tests;
 pub mod trouble;
