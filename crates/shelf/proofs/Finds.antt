@@ -1,8 +1,7 @@
 -- The record of a key is found, stored and taken at the rank of the key. Each step looks at how the first key compares: a is whether it is before the given one, b whether it is after.
-use Rattle.std.proofs.Common.{◌≡◌, ℕ, suc, ◌<◌, ◌≤◌, Bool, true, false, cond, not, List, [], ◌∷◌, length, get_or, set, is_some, Some, None, Ok, Err, sym, refl, ap, ◌∙◌, suc-le-suc, arith}
+use Rattle.std.proofs.Common.{◌≡◌, suc, ◌<◌, Bool, true, false, cond, List, [], ◌∷◌, length, get_or, set, is_some, Some, None, refl, ap, suc-le-suc, arith}
 use Rattle.std.specs.List.{insert, remove}
-use Rattle.std.proofs.lemmas.Bool.{cond-true, cond-false}
-use Rattle.shelf.specs.Keys.{Keys, rank, found, stored, taken, located}
+use Rattle.shelf.specs.Keys.{Keys, rank, found, stored, taken}
 
 module _ {R K : Type 0} (keys : Keys R K) where
   abbrev Known : K → List R → Type 0
@@ -64,36 +63,3 @@ module _ {R K : Type 0} (keys : Keys R K) where
       go true b more h = ap (λ (l : List R). x ∷ l) (more h)
       go false true more h = refl
       go false false more h = cc
-
-  -- whether the key is known, from the record at its rank
-  pub known_test : (k : K) (xs : List R) (d : R) → rank keys k xs < length xs → is_some (found keys k xs) ≡ not (keys.before k (keys.key (get_or xs (rank keys k xs) d)))
-  known_test k [] d l = absurd (omega arith)
-  known_test k (x ∷ xs) d l = go (keys.before (keys.key x) k) (keys.before k (keys.key x)) refl (known_test k xs d) l
-    where
-      go : (a b : Bool) → keys.before k (keys.key x) ≡ b → (rank keys k xs < length xs → is_some (found keys k xs) ≡ not (keys.before k (keys.key (get_or xs (rank keys k xs) d)))) → cond a (suc (rank keys k xs)) 0 < suc (length xs) → is_some (cond a (found keys k xs) (cond b None (Some x))) ≡ not (keys.before k (keys.key (get_or (x ∷ xs) (cond a (suc (rank keys k xs)) 0) d)))
-      go true b e more l = more (omega arith)
-      go false true e more l = ap not (sym e)
-      go false false e more l = ap not (sym e)
-
-  pub known_past : (k : K) (xs : List R) → length xs ≤ rank keys k xs → Unknown k xs
-  known_past k [] l = refl
-  known_past k (x ∷ xs) l = go (keys.before (keys.key x) k) (keys.before k (keys.key x)) (known_past k xs) l
-    where
-      go : (a b : Bool) → (length xs ≤ rank keys k xs → Unknown k xs) → suc (length xs) ≤ cond a (suc (rank keys k xs)) 0 → is_some (cond a (found keys k xs) (cond b None (Some x))) ≡ false
-      go true b more l = more (omega arith)
-      go false b more l = absurd (omega arith)
-
-  -- what the search answers, from the record that was read at the rank
-  pub located_past : (k : K) (xs : List R) (at : ℕ) → at ≡ rank keys k xs → at ≡ length xs → Err at ≡ located keys k xs
-  located_past k xs at e l = ap Err e ∙ sym (cond-false (is_some (found keys k xs)) _ _ (known_past k xs (omega arith)))
-
-  known_read : (k : K) (xs : List R) (at : ℕ) (x : R) (key : K) (t : Bool) → at ≡ rank keys k xs → at < length xs → x ≡ get_or xs at x → key ≡ keys.key x → t ≡ keys.before k key → is_some (found keys k xs) ≡ not t
-  known_read k xs at x key t e l is ek et =
-      let read : keys.key (get_or xs (rank keys k xs) x) ≡ key = ap (λ i. keys.key (get_or xs i x)) (sym e) ∙ ap (λ v. keys.key v) (sym is) ∙ sym ek in
-      known_test k xs x (omega arith) ∙ ap (λ v. not (keys.before k v)) read ∙ ap not (sym et)
-
-  pub located_gap : (k : K) (xs : List R) (at : ℕ) (x : R) (key : K) (t : Bool) → at ≡ rank keys k xs → at < length xs → x ≡ get_or xs at x → key ≡ keys.key x → t ≡ keys.before k key → t ≡ true → Err at ≡ located keys k xs
-  located_gap k xs at x key t e l is ek et before = ap Err e ∙ sym (cond-false (is_some (found keys k xs)) _ _ (known_read k xs at x key t e l is ek et ∙ ap not before))
-
-  pub located_here : (k : K) (xs : List R) (at : ℕ) (x : R) (key : K) (t : Bool) → at ≡ rank keys k xs → at < length xs → x ≡ get_or xs at x → key ≡ keys.key x → t ≡ keys.before k key → t ≡ false → Ok at ≡ located keys k xs
-  located_here k xs at x key t e l is ek et after = ap Ok e ∙ sym (cond-true (is_some (found keys k xs)) _ _ (known_read k xs at x key t e l is ek et ∙ ap not after))

@@ -5,6 +5,7 @@ ghost use Rattle.shelf.specs.Keys.{Sorted, found, located, rank};
 
 use super::record::Record;
 use super::refusal::ShelfRefused;
+use std::cmp::Ordering;
 
 // How many of the records have a key before the given one, by halving.
 pub fn place<R: Record>(records: &[R], key: R::Key) -> usize
@@ -19,12 +20,16 @@ pub fn search<R: Record>(records: &[R], key: R::Key) -> Result<usize, usize>
     ensures within { MatchResult result (λ i. i < length records.now) (λ i. i ≤ length records.now) }
     ensures is { Sorted R.Record.keys records.now → result ≡ located R.Record.keys key records.now }
 {
-    let at = place(records, key);
-    if at == records.len() || R::precedes(key, records[at].key()) {
-        Err(at)
-    } else {
-        Ok(at)
-    }
+    records.binary_search_by(|record| {
+        let held = record.key();
+        if R::precedes(key, held) {
+            Ordering::Greater
+        } else if R::precedes(held, key) {
+            Ordering::Less
+        } else {
+            Ordering::Equal
+        }
+    })
 }
 
 // The record of a key, if there is one.
